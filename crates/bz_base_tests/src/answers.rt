@@ -181,17 +181,29 @@ fn calls_and_sites_are_owned(rt: HostRuntime) {
     assert!(rt; site_is_owned(rt.alloc()), "a site");
 }
 
+/// Whether an answer becomes an entry without a symbol, for this reason.
+fn is_entry(answer: Result<Symbolized<'static>>, reason: Reason) -> bool {
+    match in_batch(answer) {
+        Ok(Symbolized::Unknown(kept)) => kept == reason,
+        _ => false,
+    }
+}
+
+/// Whether an error refuses the batch.
+fn refuses(error: Error) -> bool {
+    match in_batch(Err(error)) {
+        Ok(_) => false,
+        Err(refusal) => refusal == error,
+    }
+}
+
 /// Whether a batch keeps an answer and ignores a refused address. A failed read and want of memory
 /// refuse it.
 fn becomes_an_entry() -> bool {
-    let kept = in_batch(Ok(Symbolized::Unknown(Reason::Unmapped)));
-    matches!(kept, Ok(Symbolized::Unknown(Reason::Unmapped)))
-        && matches!(
-            in_batch(Err(Error::InvalidData)),
-            Ok(Symbolized::Unknown(Reason::IgnoredError))
-        )
-        && matches!(in_batch(Err(Error::ReadFault)), Err(Error::ReadFault))
-        && matches!(in_batch(Err(Error::OutOfMemory)), Err(Error::OutOfMemory))
+    is_entry(Ok(Symbolized::Unknown(Reason::Unmapped)), Reason::Unmapped)
+        && is_entry(Err(Error::InvalidData), Reason::IgnoredError)
+        && refuses(Error::ReadFault)
+        && refuses(Error::OutOfMemory)
 }
 
 #[test]

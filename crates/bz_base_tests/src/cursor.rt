@@ -110,12 +110,14 @@ fn reads_rest(cursor: &mut Cursor<'_>) -> bool {
 
 #[test]
 fn reads_leb128_of_up_to_ten_bytes_or_none(rt: HostRuntime) {
-    for index in 0..UNSIGNED.len() {
-        let (bytes, want) = UNSIGNED[index];
+    let unsigned = &UNSIGNED;
+    for index in 0..unsigned.len() {
+        let (bytes, want) = unsigned[index];
         assert!(rt; unsigned_is_read(bytes, want), "unsigned {index}");
     }
-    for index in 0..SIGNED.len() {
-        let (bytes, want) = SIGNED[index];
+    let signed = &SIGNED;
+    for index in 0..signed.len() {
+        let (bytes, want) = signed[index];
         assert!(rt; signed_is_read(bytes, want), "signed {index}");
     }
 }

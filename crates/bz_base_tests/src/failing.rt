@@ -113,8 +113,9 @@ fn fails_as(alloc: Global, kind: ErrorKind, stat: FileError, read: FileError) ->
 
 #[test]
 fn each_failure_of_the_system_has_its_answer(rt: HostRuntime) {
-    for index in 0..ANSWERS.len() {
-        let (kind, stat, read) = ANSWERS[index];
+    let answers = &ANSWERS;
+    for index in 0..answers.len() {
+        let (kind, stat, read) = answers[index];
         assert!(rt; fails_as(rt.alloc(), kind, stat, read), "row {index}");
     }
 }

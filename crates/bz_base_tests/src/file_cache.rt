@@ -57,7 +57,8 @@ pub(crate) fn answers<F: Files>(
     }
 }
 
-/// Puts a text at `/s` under the stamp of the file at `/b`. Says whether there is one, and memory was left.
+/// Puts a text at `/s` under the stamp of the file at `/b`. Says whether there is one, and memory was
+/// left.
 fn put_under_its_stamp(alloc: Global, files: &mut MemFiles, text: &[u8]) -> bool {
     let Ok(stamp) = files.stat("/b") else {
         return false;

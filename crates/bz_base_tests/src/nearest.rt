@@ -248,7 +248,7 @@ fn finds_places<L: Ledger>(alloc: Global, steps: &mut Steps<L>) -> Result<bool, 
 fn finds<L: Ledger>(blank: Blank, alloc: Global) -> bool
     requires name { blank.name ≡ L.name }
     requires parts { blank.parts ≡ L.parts }
-    requires some { 0 < L.parts }
+    requires positive { 0 < L.parts }
 {
     let mut steps = Steps::<L>::new(blank);
     finds_record(alloc, &mut steps) == Ok(true) && finds_places(alloc, &mut steps) == Ok(true)

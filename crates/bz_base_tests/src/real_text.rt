@@ -116,8 +116,9 @@ fn goes_while_there_is_room() -> bool {
 
 #[test]
 fn real_texts_go_on_after_failures_and_end_where_there_is_no_room(rt: HostRuntime) {
-    for index in 0..FAILURES.len() {
-        let (kind, left, faults) = FAILURES[index];
+    let failures = &FAILURES;
+    for index in 0..failures.len() {
+        let (kind, left, faults) = failures[index];
         assert!(rt; comes_after(kind, left, faults), "a reader, row {index}");
         assert!(rt; goes_after(kind, left, faults), "a writer, row {index}");
     }

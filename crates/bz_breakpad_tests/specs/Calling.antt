@@ -21,7 +21,8 @@ pub record HasName (bytes : List ℕ) (addr : ℕ) (name : Option (List ℕ)) : 
   -- the name is the answer's
   pub named : name_of answer ≡ Some name
 
--- this is the name, if there is one, at an address of the Breakpad file at a path, in a world of files that may be told
+-- this is the name, if there is one, at an address of the Breakpad file at a path, in a world of files
+-- that may be told
 pub record IsNamed (world : Option World) (path : List ℕ) (addr : ℕ) (name : Option (List ℕ)) : Type 0 where
   -- the file's bytes
   pub bytes : List ℕ

@@ -16,7 +16,8 @@ pub(crate) type Names = &'static [(u32, &'static str)];
 pub(crate) enum Fact {
     /// How many records it has.
     Records(u64),
-    /// How many functions it has, how many ids its FILE records have, and how many PUBLIC records it has.
+    /// How many functions it has, how many ids its FILE records have, and how many PUBLIC records it
+    /// has.
     Counts(usize, usize, usize),
     /// The name in its MODULE record.
     Module(&'static str),

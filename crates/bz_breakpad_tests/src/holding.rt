@@ -44,7 +44,7 @@ fn shows_all<L: Ledger>(
 ) -> bool
     requires name { blank.name ≡ L.name }
     requires parts { blank.parts ≡ L.parts }
-    requires some { 0 < L.parts }
+    requires positive { 0 < L.parts }
 {
     file.formed();
     let mut steps = Steps::<L>::new(blank);

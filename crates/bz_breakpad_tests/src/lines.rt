@@ -44,7 +44,8 @@ const INTERRUPTED: &[u8] =
 const CARRIAGE_RETURNS: &[u8] =
     b"FUNC 1000 40 0 f\r\n1000 10 1 1\r\n1010 8 2 1\r\n1020 8 3 1\nINFO a record of more bytes than a load\n";
 
-/// The lines at addresses: in runs, and among lines that are out of order, start alike, or are interrupted.
+/// The lines at addresses: in runs, and among lines that are out of order, start alike, or are
+/// interrupted.
 pub(crate) const LINES: &[Row] = &[
     (
         RUN,

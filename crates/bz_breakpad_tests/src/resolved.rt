@@ -24,8 +24,8 @@ pub(crate) enum Resolved {
 
 /// What is found at an address.
 pub(crate) enum Found {
-    /// The symbol's name and site, start, size and module, which is empty where there is none. It has no
-    /// inlined calls, and its language isn't known.
+    /// The symbol's name and site, start, size and module, which is empty where there is none. It has
+    /// no inlined calls, and its language isn't known.
     Symbol(Call, u64, Option<usize>, &'static str),
     /// Why there is no symbol.
     Unknown(Reason),

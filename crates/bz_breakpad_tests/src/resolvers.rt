@@ -134,7 +134,8 @@ fn fill(alloc: Global, files: &mut MemFiles) -> Result<()> {
     files.fail_call(alloc, 4)
 }
 
-/// The first path that isn't refused by its cause, or that files weren't put; nothing where all are refused so.
+/// The first path that isn't refused by its cause, or that files weren't put; nothing where all are
+/// refused so.
 fn first_to_fail(alloc: Global, files: &mut MemFiles) -> &'static str {
     let Ok(()) = fill(alloc, files) else {
         return "files are put";

@@ -5,7 +5,8 @@ use crate::fact::Row;
 use crate::files::NESTED;
 use bz_samples::{BREAKPAD_KINDS, BREAKPAD_PROGRAM};
 
-/// Files of every kind of record but STACK WIN, with other line ends, with blank lines, and with equal records.
+/// Files of every kind of record but STACK WIN, with other line ends, with blank lines, and with equal
+/// records.
 pub(crate) const COUNTED: &[Row] = &[
     (BREAKPAD_KINDS, &[Records(5), Counts(1, 1, 1)]),
     (

@@ -24,7 +24,8 @@ pub(crate) const IS_LATER: &[Step] = &[
     Step::Alone(0x4008, Told::Unknown(Reason::UnknownAddr)),
 ];
 
-/// Nothing is kept of process 7: its mappings are read, it isn't remembered, and its perf map isn't held.
+/// Nothing is kept of process 7: its mappings are read, it isn't remembered, and its perf map isn't
+/// held.
 pub(crate) const IS_UNKEPT: &[Step] = &[
     Step::Files(&[]),
     Step::Alone(0x3008, Told::Refused(Error::NotFound)),

@@ -47,8 +47,8 @@ fn vdso(alloc: Global) -> Result<Option<ElfResolver>>
     }
 }
 
-/// The resolver answers for the part of the system, and for a mapped file no one does. Where the mappings
-/// may not be read, the batch is refused.
+/// The resolver answers for the part of the system, and for a mapped file no one does. Where the
+/// mappings may not be read, the batch is refused.
 static RESOLVED: [Step; 4] = [
     Step::Files(FIRST),
     Step::Batch(

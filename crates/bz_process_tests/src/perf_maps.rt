@@ -49,7 +49,8 @@ static ANSWERS: [(&[u8], u64, Told); 37] = [
     (PYTHON, 0x7fbf1fc21457, UNKNOWN),
     (PYTHON, 0x7fbf1fc215f0, RUN_ON),
     (PYTHON, 0x7fbf1fc215f9, UNKNOWN),
-    // At the start itself the smallest answers, inside the largest; a function around them is never tried.
+    // At the start itself the smallest answers, inside the largest; a function around them is never
+    // tried.
     (ALIKE, 0x10, ("around", 0x10, 0x30)),
     (ALIKE, 0x1f, ("around", 0x10, 0x30)),
     (ALIKE, 0x20, ("a", 0x20, 4)),

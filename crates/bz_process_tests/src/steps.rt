@@ -234,7 +234,8 @@ fn step_holds<D: ProcessDispatch + Drop>(
     }
 }
 
-/// Whether all steps of a story hold, one after another. At first there are no files and nothing is kept.
+/// Whether all steps of a story hold, one after another. At first there are no files and nothing is
+/// kept.
 pub(crate) fn holds<D: ProcessDispatch + Drop>(
     alloc: Global,
     dispatch: D,

@@ -1,4 +1,5 @@
-//! Small files of each format, and what a system tells of a process, which tests read as they are or with some bytes changed.
+//! Small files of each format, and what a system tells of a process. Tests read them as they are, or
+//! with some bytes changed.
 #![tactic(auto)]
 
 ghost use Rattle.std.specs.Prelude.{◌≡◌, length, IfOk};

@@ -299,8 +299,9 @@ fn holds(alloc: Global, asked: &Asked, steps: &[Step]) -> bool {
 
 #[test]
 fn stacks_fold_by_what_sources_answer_or_are_refused(rt: HostRuntime) {
-    for index in 0..ROWS.len() {
-        let row = &ROWS[index];
+    let rows = &ROWS;
+    for index in 0..rows.len() {
+        let row = &rows[index];
         assert!(rt; holds(rt.alloc(), &row.0, row.1), "row {index}");
     }
 }

@@ -82,15 +82,15 @@ const ABA: &[Frame] = &[
     ("a", "AA", 0x1000),
 ];
 
-/// Frames that are asked about together, the letters of their answers, and then how many files are kept,
-/// and were read. Where there is no frame, the first file is replaced before.
+/// Frames that are asked about together, the letters of their answers, and then how many files are
+/// kept, and were read. Where there is no frame, the first file is replaced before.
 type Asked = (&'static [Frame], &'static [u8], usize, u64);
 
 /// Whether a new store keeps two files, or else one; the read that fails, or 0; and what it is asked.
 type Course = (bool, u64, &'static [Asked]);
 
-/// Courses. Each file is read once that is kept, and one that isn't a Breakpad file at each of its frames.
-/// Nothing is read under a bad name.
+/// Courses. Each file is read once that is kept, and one that isn't a Breakpad file at each of its
+/// frames. Nothing is read under a bad name.
 static COURSES: [Course; 10] = [
     (true, 0, &[(KINDS, b"fanudxxa", 1, 3)]),
     (false, 0, &[(KINDS, b"fanudxxa", 1, 3)]),
@@ -240,9 +240,10 @@ fn goes_so(alloc: Global, course: &Course) -> Result<bool, Error> {
 
 #[test]
 fn stores_answer_by_what_lies_at_the_path_and_keep_the_last_used(rt: HostRuntime) {
-    for index in 0..COURSES.len() {
+    let courses = &COURSES;
+    for index in 0..courses.len() {
         assert!(rt;
-            goes_so(rt.alloc(), &COURSES[index]) == Ok(true),
+            goes_so(rt.alloc(), &courses[index]) == Ok(true),
             "course {index}"
         );
     }

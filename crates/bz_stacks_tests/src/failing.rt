@@ -1,5 +1,5 @@
-//! Calls of a symbolizer that fail: by damaged files, by files that aren't there or may not be read, and
-//! by looks that fail.
+//! Calls of a symbolizer that fail: by damaged files, by files that aren't there or may not be read,
+//! and by looks that fail.
 
 mod asking;
 mod causes;

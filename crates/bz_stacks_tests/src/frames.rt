@@ -5,8 +5,8 @@ use bz_stacks::{Folded, Stack};
 use std::alloc::Global;
 use std::borrow::CowStr;
 
-/// An answer: the name of a symbol, and those of the calls that were inlined there. An unknown address has
-/// no name.
+/// An answer: the name of a symbol, and those of the calls that were inlined there. An unknown address
+/// has no name.
 type Answered = &'static [&'static str];
 
 /// A stack by the answers to its addresses, and its count.
@@ -125,8 +125,8 @@ fn answers(alloc: Global, row: &[Answered]) -> Result<Vec<Symbolized<'static>>> 
     Ok(answers)
 }
 
-/// Adds a stack of this count, where there may be one more and each of its addresses has an answer. Says
-/// whether it was added.
+/// Adds a stack of this count, where there may be one more and each of its addresses has an answer.
+/// Says whether it was added.
 fn add(folded: &mut Folded, stack: &Stack, answers: &[Symbolized<'_>], count: u32) -> bool {
     stack.count() == count
         && answers.len() == stack.addrs().len()
@@ -172,7 +172,8 @@ fn holds(alloc: Global, steps: &[Step]) -> bool {
 
 #[test]
 fn writes_a_line_for_each_path(rt: HostRuntime) {
-    for index in 0..ROWS.len() {
-        assert!(rt; holds(rt.alloc(), ROWS[index]), "row {index}");
+    let rows = &ROWS;
+    for index in 0..rows.len() {
+        assert!(rt; holds(rt.alloc(), rows[index]), "row {index}");
     }
 }

@@ -55,8 +55,9 @@ fn holds(alloc: Global, row: &Row) -> bool {
 
 #[test]
 fn reads_stacks_or_names_the_first_bad_line(rt: HostRuntime) {
-    for index in 0..ROWS.len() {
-        assert!(rt; holds(rt.alloc(), &ROWS[index]), "row {index}");
+    let rows = &ROWS;
+    for index in 0..rows.len() {
+        assert!(rt; holds(rt.alloc(), &rows[index]), "row {index}");
     }
 }
 

@@ -10,7 +10,8 @@ use Rattle.bz_samples.specs.declared.TheConstants.{ELF_FUNCTION}
 abbrev pub vdso_resolver : Resolver
 vdso_resolver = record { bytes = ELF_FUNCTION; path = codes "/vdso.so" }
 
--- that resolver for the part of the system that is called `[vdso]`; every other part is refused, and a file has none
+-- that resolver for the part of the system that is called `[vdso]`; every other part is refused, and a
+-- file has none
 abbrev pub given_or_refused : Name → Result (Option Resolver) Error
 given_or_refused (Component part) = if bytes_eq part (codes "[vdso]") then Ok (Some vdso_resolver) else Err errors.NotFound
 given_or_refused (File stands_for own) = Ok None

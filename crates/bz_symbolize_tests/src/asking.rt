@@ -101,7 +101,7 @@ fn answers_counted<L: Ledger>(
 ) -> bool
     requires name { blank.name ≡ L.name }
     requires parts { blank.parts ≡ L.parts }
-    requires some { 0 < L.parts }
+    requires positive { 0 < L.parts }
 {
     let mut steps = Steps::<L>::new(blank);
     are_given(

@@ -125,8 +125,9 @@ static SCRIPTS: [(Start<'static>, Script); 7] = [
 
 #[test]
 fn calls_on_breakpad_files_answer_or_are_refused(rt: HostRuntime) {
-    for index in 0..SCRIPTS.len() {
-        let row = &SCRIPTS[index];
+    let scripts = &SCRIPTS;
+    for index in 0..scripts.len() {
+        let row = &scripts[index];
         assert!(rt; hold(rt.alloc(), &row.0, &[row.1]), "script {index}");
     }
 }

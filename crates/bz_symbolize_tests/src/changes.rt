@@ -70,7 +70,8 @@ static SCRIPTS: [Script; 3] = [CHANGES, COMES_BACK, KEEPS_ITS_STAMP];
 
 #[test]
 fn files_answer_by_their_stamps_or_as_first_read(rt: HostRuntime) {
-    for index in 0..SCRIPTS.len() {
-        assert!(rt; hold(rt.alloc(), &ALL, &[SCRIPTS[index]]), "script {index}");
+    let scripts = &SCRIPTS;
+    for index in 0..scripts.len() {
+        assert!(rt; hold(rt.alloc(), &ALL, &[scripts[index]]), "script {index}");
     }
 }

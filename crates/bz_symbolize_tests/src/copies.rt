@@ -1,4 +1,5 @@
-//! Sources and requests are printed as what they are of, and copies of them are the same in every field.
+//! Sources and requests are printed as what they are of, and copies of them are the same in every
+//! field.
 
 use crate::asking::{Subject, source};
 use crate::keeping::{Kept, to_forget, to_keep};
@@ -249,16 +250,18 @@ fn are_requests(alloc: Global, kept: &Kept, text: &str) -> bool {
 
 #[test]
 fn sources_and_requests_are_printed_and_copied(rt: HostRuntime) {
-    for index in 0..SOURCES.len() {
-        let row = &SOURCES[index];
+    let sources = &SOURCES;
+    for index in 0..sources.len() {
+        let row = &sources[index];
         assert!(rt;
             is_source(rt.alloc(), &row.0, row.1, row.2),
             "source {index}"
         );
     }
-    for index in 0..WAYS.len() {
+    let rows = &WAYS;
+    for index in 0..rows.len() {
         assert!(rt;
-            own_process_is_copied(rt.alloc(), &WAYS[index]),
+            own_process_is_copied(rt.alloc(), &rows[index]),
             "ways {index}"
         );
     }
@@ -267,8 +270,9 @@ fn sources_and_requests_are_printed_and_copied(rt: HostRuntime) {
         elf_file_is_copied(rt.alloc(), false),
         "without debug symbols"
     );
-    for index in 0..REQUESTS.len() {
-        let row = &REQUESTS[index];
+    let requests = &REQUESTS;
+    for index in 0..requests.len() {
+        let row = &requests[index];
         assert!(rt; are_requests(rt.alloc(), &row.0, row.1), "request {index}");
     }
 }

@@ -139,9 +139,10 @@ static SCRIPTS: [Script; 3] = [KINDS, BATCHES, UNREAD];
 
 #[test]
 fn calls_on_elf_files_answer_or_are_refused(rt: HostRuntime) {
-    for index in 0..SCRIPTS.len() {
+    let scripts = &SCRIPTS;
+    for index in 0..scripts.len() {
         assert!(rt;
-            hold(rt.alloc(), &ALL, &[FILES, SCRIPTS[index]]),
+            hold(rt.alloc(), &ALL, &[FILES, scripts[index]]),
             "script {index}"
         );
     }

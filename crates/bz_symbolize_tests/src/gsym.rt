@@ -154,8 +154,8 @@ const NO_SITE: Script = &[Ask(
     Single(Input::VirtOffset(0x1000), Located(CODE, "main", 0, 0, 0)),
 )];
 
-/// An address is asked for in an inlined call whose file isn't there. It is an ignored error in a batch,
-/// in which the one behind the call answers, and is refused alone.
+/// An address is asked for in an inlined call whose file isn't there. It is an ignored error in a
+/// batch, in which the one behind the call answers, and is refused alone.
 const FOLDED: Script = &[
     Ask(
         Bytes,
@@ -251,12 +251,14 @@ static SCRIPTS: [(Start<'static>, Script); 9] = [
 
 #[test]
 fn calls_on_gsym_answer_or_are_refused(rt: HostRuntime) {
-    for index in 0..SCRIPTS.len() {
-        let row = &SCRIPTS[index];
+    let scripts = &SCRIPTS;
+    for index in 0..scripts.len() {
+        let row = &scripts[index];
         assert!(rt; hold(rt.alloc(), &row.0, &[row.1]), "script {index}");
     }
-    for index in 0..DAMAGED.len() {
-        assert!(rt; damage_holds(rt.alloc(), &DAMAGED[index]), "damage {index}");
+    let damaged = &DAMAGED;
+    for index in 0..damaged.len() {
+        assert!(rt; damage_holds(rt.alloc(), &damaged[index]), "damage {index}");
     }
     let cut = Start {
         bytes: &GSYM_LINES[..47],

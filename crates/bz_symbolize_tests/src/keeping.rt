@@ -156,8 +156,9 @@ static SCRIPTS: [&[Script]; 4] = [
 
 #[test]
 fn only_what_is_kept_answers_until_it_is_forgotten(rt: HostRuntime) {
-    for index in 0..SCRIPTS.len() {
-        assert!(rt; hold(rt.alloc(), &ALL, SCRIPTS[index]), "scripts {index}");
+    let rows = &SCRIPTS;
+    for index in 0..rows.len() {
+        assert!(rt; hold(rt.alloc(), &ALL, rows[index]), "scripts {index}");
     }
 }
 
@@ -209,8 +210,9 @@ static FAILS: [(Script, Script, Script); 7] = [
 
 #[test]
 fn a_look_that_fails_leaves_what_is_kept(rt: HostRuntime) {
-    for index in 0..FAILS.len() {
-        let (kept, fails, stays) = FAILS[index];
+    let rows = &FAILS;
+    for index in 0..rows.len() {
+        let (kept, fails, stays) = rows[index];
         let parts = &[FILE_KEPT, FILES, kept, LATER, fails, REFUSED, stays];
         assert!(rt; hold(rt.alloc(), &ALL, parts), "row {index}");
     }

@@ -17,9 +17,8 @@ use std::sync::ledger::{Blank, Ledger};
 pub(crate) enum Then {
     /// Its two addresses are answered one by one and together.
     Answers,
-    /// The file changes. The address is in the function of the first Breakpad file, which answers it after
-    /// the second file has come. Together with one before the function it is answered as
-    /// is told.
+    /// The file changes. The address is in the function of the first Breakpad file, which answers it
+    /// after the second file has come. Together with one before the function it is answered as is told.
     Changes,
 }
 
@@ -42,8 +41,8 @@ fn are_looked_up(alloc: Global, lookups: &Lookups<'_>, told: &[Told]) -> bool {
         && are_given(lookups.answers_of(alloc, &[0, 1]), told)
 }
 
-/// Whether the address 0x1010, looked up in the first file, is answered by `one` after the second file has
-/// come. Together with another address it is answered as is told.
+/// Whether the address 0x1010, looked up in the first file, is answered by `one` after the second file
+/// has come. Together with another address it is answered as is told.
 fn stays_looked_up(
     alloc: Global,
     symbolizer: &mut Symbolizer,
@@ -76,7 +75,7 @@ pub(crate) fn looks_up<L: Ledger>(
 ) -> bool
     requires name { blank.name ≡ L.name }
     requires parts { blank.parts ≡ L.parts }
-    requires some { 0 < L.parts }
+    requires positive { 0 < L.parts }
 {
     let Ok(addrs) = copied(alloc, input) else {
         return false;

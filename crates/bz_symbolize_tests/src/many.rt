@@ -17,15 +17,16 @@ use std::alloc::Global;
 use std::marker::Brand;
 use std::sync::ledger::{Blank, Ledger};
 
-/// Addresses that are asked for. They lie at equal steps through the file, and the steps come in an order.
+/// Addresses that are asked for. They lie at equal steps through the file, and the steps come in an
+/// order.
 #[derive(Drop)]
 pub(crate) struct Batch {
     /// How many addresses there are.
     pub(crate) addresses: u64,
     /// How many bytes a step has.
     pub(crate) stride: u64,
-    /// How many steps lie between an address and the next, round the end. It has no divisor but 1 in common
-    /// with how many addresses there are.
+    /// How many steps lie between an address and the next, round the end. It has no divisor but 1 in
+    /// common with how many addresses there are.
     pub(crate) factor: u64,
     /// The step that comes first.
     pub(crate) first: u64,
@@ -79,8 +80,8 @@ const CODE: &Code = &Code {
     inlined_file: "gen.c",
 };
 
-/// Whether the symbol has the lines of the function so many bytes past the first one. They are those of the
-/// call, or of one of its two line records.
+/// Whether the symbol has the lines of the function so many bytes past the first one. They are those of
+/// the call, or of one of its two line records.
 fn has_lines(symbol: &Sym<'_>, past: u64) -> bool {
     let first = past / 64 + 1;
     match past % 64 {
@@ -90,8 +91,8 @@ fn has_lines(symbol: &Sym<'_>, past: u64) -> bool {
     }
 }
 
-/// Whether the answer is that at the address so many bytes past the first one, and the same as the plain
-/// one.
+/// Whether the answer is that at the address so many bytes past the first one, and the same as the
+/// plain one.
 fn is_right(answer: &Symbolized<'_>, plain: &Symbolized<'_>, past: u64, code_info: bool) -> bool {
     let is_as_told = match answer {
         Symbolized::Sym(symbol) => {
@@ -207,8 +208,8 @@ fn looks_up<L: Ledger>(
     }
 }
 
-/// Whether calls answer so again and again, with a count of their steps and without, and once where they
-/// look up.
+/// Whether calls answer so again and again, with a count of their steps and without, and once where
+/// they look up.
 fn answers_often<L: Ledger>(
     alloc: Global,
     symbolizer: &mut Symbolizer,
@@ -222,7 +223,7 @@ fn answers_often<L: Ledger>(
 ) -> bool
     requires name { blank.name ≡ L.name }
     requires parts { blank.parts ≡ L.parts }
-    requires some { 0 < L.parts }
+    requires positive { 0 < L.parts }
 {
     let mut steps = Steps::<L>::new(blank);
     let input = Input::FileOffset(addrs);
@@ -329,8 +330,9 @@ static SCRIPTS: [Script; 2] = [CALLS, ORDERS];
 
 #[test]
 fn addresses_answer_alike_alone_and_in_any_order(rt: HostRuntime) {
-    for index in 0..SCRIPTS.len() {
-        assert!(rt; hold(rt.alloc(), &ALL, &[SCRIPTS[index]]), "script {index}");
+    let scripts = &SCRIPTS;
+    for index in 0..scripts.len() {
+        assert!(rt; hold(rt.alloc(), &ALL, &[scripts[index]]), "script {index}");
     }
 }
 

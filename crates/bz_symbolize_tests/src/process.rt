@@ -113,7 +113,8 @@ static SCRIPTS: [&[Script]; 5] = [
 
 #[test]
 fn calls_on_processes_answer_or_are_refused(rt: HostRuntime) {
-    for index in 0..SCRIPTS.len() {
-        assert!(rt; hold(rt.alloc(), &ALL, SCRIPTS[index]), "scripts {index}");
+    let rows = &SCRIPTS;
+    for index in 0..rows.len() {
+        assert!(rt; hold(rt.alloc(), &ALL, rows[index]), "scripts {index}");
     }
 }

@@ -52,8 +52,8 @@ fn is_site(site: &Option<CodeInfo<'_>>, dir: &str, file: &str, line: u64) -> boo
     is_in && site.file.as_str() == file && line != 0 && u64::from(site.line.unwrap_or(0)) == line
 }
 
-/// Whether the symbol is of the code's module, and has its site at that line of the code. Its one inlined
-/// call is at the other line. Where a line is 0 there is no site, or no call.
+/// Whether the symbol is of the code's module, and has its site at that line of the code. Its one
+/// inlined call is at the other line. Where a line is 0 there is no site, or no call.
 pub(crate) fn is_located(symbol: &Sym<'_>, code: &Code, line: u64, called: u64) -> bool {
     let calls = match symbol.inlined.as_slice() {
         [] => called == 0,

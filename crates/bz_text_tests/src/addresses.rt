@@ -60,12 +60,14 @@ fn has_fields(alloc: Global, text: &[u8], count: usize, last: &[u8]) -> bool {
 
 #[test]
 fn reads_addresses_refuses_bad_lines_and_cuts_fields(rt: HostRuntime) {
-    for index in 0..INPUTS.len() {
-        let (text, count, last, line) = INPUTS[index];
+    let inputs = &INPUTS;
+    for index in 0..inputs.len() {
+        let (text, count, last, line) = inputs[index];
         assert!(rt; says(rt.alloc(), text, count, last, line), "row {index}");
     }
-    for index in 0..FIELDS.len() {
-        let (text, count, last) = FIELDS[index];
+    let rows = &FIELDS;
+    for index in 0..rows.len() {
+        let (text, count, last) = rows[index];
         assert!(rt;
             has_fields(rt.alloc(), text, count, last),
             "fields of row {index}"

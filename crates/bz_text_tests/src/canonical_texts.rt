@@ -68,8 +68,8 @@ const ORDERS: &[Row] = &[
 ];
 
 /// The same of texts and numbers that may be written in several ways. There are blank lines and white
-/// space, zeros in front, upper case and marks. Ids come in any order, and the last name of each counts. Numbers
-/// are the greatest ones, and the greatest and least of so many digits.
+/// space, zeros in front, upper case and marks. Ids come in any order, and the last name of each
+/// counts. Numbers are the greatest ones, and the greatest and least of so many digits.
 const SPELLINGS: &[Row] = &[
     (
         b"PUBLIC m 00AB 0F x y\n\n \tPUBLIC\t0  0 \r\n",
@@ -102,8 +102,8 @@ const SPELLINGS: &[Row] = &[
 const LINES: &[u8] =
     b"FUNC 1000 100 0 f\n1000 10 42 0\n1010 8 7 10\n1018 a8 100 1\n10c0 40 4294967295 20\n";
 
-/// The lines as they may be written: the same, in upper case, with zeros in front, and with tabs or more
-/// blanks. Then with carriage returns, and in another order.
+/// The lines as they may be written: the same, in upper case, with zeros in front, and with tabs or
+/// more blanks. Then with carriage returns, and in another order.
 static LINES_WRITTEN: [&[u8]; 14] = [
     LINES,
     b"FUNC 1000 100 0 f\n1000 10 42 0\n1010 8 7 10\n1018 a8 100 1\n10C0 40 4294967295 20\n",
@@ -154,8 +154,9 @@ fn texts_have_their_canonical_texts(rt: HostRuntime) {
             assert!(rt; holds(rt.alloc(), text, expected), "{told}: row {index}");
         }
     }
-    for index in 0..LINES_WRITTEN.len() {
-        let text = LINES_WRITTEN[index];
+    let lines_written = &LINES_WRITTEN;
+    for index in 0..lines_written.len() {
+        let text = lines_written[index];
         assert!(rt;
             has_canonical(rt.alloc(), text, LINES),
             "lines: row {index}"

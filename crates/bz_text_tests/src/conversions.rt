@@ -8,8 +8,8 @@ use bz_gsym::GsymTable;
 use bz_samples::{BREAKPAD_KINDS, GSYM_CONVERTED};
 use std::alloc::Global;
 
-/// A function with a call that was inlined, and two inside that one. One call stands there twice, and one
-/// has no size.
+/// A function with a call that was inlined, and two inside that one. One call stands there twice, and
+/// one has no size.
 const CALLS: &[u8] =
     b"FILE 7 p.c\nFILE 15 o.c\nFILE 4 m.c\nFILE 8 i2.c\nFUNC 1000 30 10 outer_func()\nINLINE_ORIGIN 1 inner_func_2()\nINLINE_ORIGIN 2 mid_func()\nINLINE_ORIGIN 3 inner_func_1()\nINLINE 1 17 4 1 1010 10\nINLINE 0 60 15 2 1000 20\nINLINE 1 12 4 3 1000 10\nINLINE 1 17 4 1 1010 10\nINLINE 0 9 15 2 1028 0\n1000 10 42 7\n1010 10 52 8\n1020 10 62 15\n";
 
@@ -74,8 +74,9 @@ fn is_said(alloc: Global, table: &GsymTable, addr: u64, expected: &str) -> bool 
 
 /// How many addresses a table answers so, before one that it doesn't.
 fn count_until_failure(alloc: Global, table: &GsymTable) -> usize {
-    for index in 0..ANSWERS.len() {
-        let (addr, expected) = ANSWERS[index];
+    let answers = &ANSWERS;
+    for index in 0..answers.len() {
+        let (addr, expected) = answers[index];
         if !is_said(alloc, table, addr, expected) {
             return index;
         }

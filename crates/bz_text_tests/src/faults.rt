@@ -6,9 +6,9 @@ use bz_convert::ConvertError;
 use bz_converting::convert;
 use std::alloc::Global;
 
-/// A file's text, and what is said of its first fault: nothing where it has none. Each cause once; sizes
-/// of 0, equal calls, and functions whose end passes 64 bits. Then files with several causes: in one
-/// function the first by the kinds' order, in several the one of the least start.
+/// A file's text, and what is said of its first fault: nothing where it has none. Each cause once;
+/// sizes of 0, equal calls, and functions whose end passes 64 bits. Then files with several causes: in
+/// one function the first by the kinds' order, in several the one of the least start.
 static CAUSES: [(&[u8], &str); 22] = [
     (b"INFO x\n", ""),
     (b"FUNC 10 0 0 f\n", "the function at 0x10 has size 0"),
@@ -123,8 +123,9 @@ fn is_said(alloc: Global, text: &[u8], said: &str) -> bool {
 
 #[test]
 fn tells_the_first_fault_of_files_or_none(rt: HostRuntime) {
-    for index in 0..CAUSES.len() {
-        let (text, said) = CAUSES[index];
+    let causes = &CAUSES;
+    for index in 0..causes.len() {
+        let (text, said) = causes[index];
         assert!(rt; is_said(rt.alloc(), text, said), "row {index}");
     }
     assert!(rt;

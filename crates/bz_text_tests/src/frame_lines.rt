@@ -68,12 +68,14 @@ fn is_bad_at(alloc: Global, text: &[u8], line: u64) -> bool {
 
 #[test]
 fn reads_frames_and_refuses_bad_lines(rt: HostRuntime) {
-    for index in 0..WELL_FORMED.len() {
-        let row = &WELL_FORMED[index];
+    let well_formed = &WELL_FORMED;
+    for index in 0..well_formed.len() {
+        let row = &well_formed[index];
         assert!(rt; says(rt.alloc(), row.0, row.1, &row.2), "row {index}");
     }
-    for index in 0..BAD.len() {
-        let row = &BAD[index];
+    let rows = &BAD;
+    for index in 0..rows.len() {
+        let row = &rows[index];
         assert!(rt; is_bad_at(rt.alloc(), row.0, row.1), "bad row {index}");
     }
 }

@@ -1,6 +1,6 @@
-//! Tests of texts and files that are read and made, over what crates make public. Of bz_requests, bz_symq,
-//! bz_words, bz_serve and bz_breakpad_table they show what is read. Of bz_convert, bz_gsym_layout,
-//! bz_converting and bz_canon they show what is made.
+//! Tests of texts and files that are read and made, over what crates make public. Of bz_requests,
+//! bz_symq, bz_words, bz_serve and bz_breakpad_table they show what is read. Of bz_convert,
+//! bz_gsym_layout, bz_converting and bz_canon they show what is made.
 #![tactic(auto)]
 
 #[cfg(test)]

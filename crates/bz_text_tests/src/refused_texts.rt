@@ -79,7 +79,8 @@ fn is_refused(alloc: Global, row: &(&[u8], Option<Refused>)) -> bool {
 
 #[test]
 fn tells_where_texts_are_refused_if_they_are(rt: HostRuntime) {
-    for index in 0..TEXTS.len() {
-        assert!(rt; is_refused(rt.alloc(), &TEXTS[index]), "row {index}");
+    let texts = &TEXTS;
+    for index in 0..texts.len() {
+        assert!(rt; is_refused(rt.alloc(), &texts[index]), "row {index}");
     }
 }

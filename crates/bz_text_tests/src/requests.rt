@@ -22,9 +22,9 @@ static SAID: [(&str, &str, &str, u32, usize, u64); 8] = [
     ("evict", "process", "", 4_294_967_295, 0, 0),
 ];
 
-/// An input, and its first line that isn't well formed; 0 for the input above. Lines have words that are
-/// none, too few fields and too many, and spaces where none may be. There are texts that aren't UTF-8, and
-/// numbers that are too great.
+/// An input, and its first line that isn't well formed; 0 for the input above. Lines have words that
+/// are none, too few fields and too many, and spaces where none may be. There are texts that aren't
+/// UTF-8, and numbers that are too great.
 static INPUTS: [(&[u8], u64); 25] = [
     (INPUT, 0),
     (b"single breakpad /s.sym\n", 1),
@@ -114,8 +114,9 @@ fn is_absolute(target: &Target) -> bool {
 
 #[test]
 fn reads_requests_of_every_kind_and_refuses_bad_lines(rt: HostRuntime) {
-    for index in 0..INPUTS.len() {
-        let (text, line) = INPUTS[index];
+    let inputs = &INPUTS;
+    for index in 0..inputs.len() {
+        let (text, line) = inputs[index];
         assert!(rt; is_read(rt.alloc(), text, line), "row {index}");
     }
 }

@@ -5,9 +5,9 @@ use bz_requests::{Config, Target};
 use bz_words::{BadWords, Command, Job, Product, complaint, read_command};
 use std::alloc::Global;
 
-/// A line whose words stand between its spaces, and which flags it gives. They are a sum of 1 for reload,
-/// 2 for code info, 4 for inlined calls and 8 for map files. Then what is to be done, what addresses are
-/// relative to, a path, and an id or the numbers of a generated job.
+/// A line whose words stand between its spaces, and which flags it gives. They are a sum of 1 for
+/// reload, 2 for code info, 4 for inlined calls and 8 for map files. Then what is to be done, what
+/// addresses are relative to, a path, and an id or the numbers of a generated job.
 type Row = (
     &'static str,
     u8,

@@ -8,8 +8,8 @@ use bz_samples::{BREAKPAD_CALLS, BREAKPAD_KINDS, BREAKPAD_PROGRAM};
 const ANSWERS: &str =
     "0x1010: another func+0x10 start 0x1000 size 0x30 module bar at -\n0x1030: ? address not found in symbolization source\n";
 
-/// A file of several records, whose line record tells the site. The same with carriage returns before its
-/// line feeds follows.
+/// A file of several records, whose line record tells the site. The same with carriage returns before
+/// its line feeds follows.
 const WITH_LINE: Row = Row {
     edits: &[Bytes("/a.sym", BREAKPAD_KINDS)],
     input: "1010\n0x1030\n",
@@ -45,8 +45,8 @@ const CALLS: Row = Row {
     ..FIRST_RUN
 };
 
-/// The file of a C program, as Breakpad writes it. One address is in a call that was inlined, and of the
-/// other's function a PUBLIC record alone tells.
+/// The file of a C program, as Breakpad writes it. One address is in a call that was inlined, and of
+/// the other's function a PUBLIC record alone tells.
 const PROGRAM: Row = Row {
     edits: &[Bytes("/a.sym", BREAKPAD_PROGRAM)],
     input: "1174\n1020\n",

@@ -122,8 +122,8 @@ const FAULT: Row = Row {
     ..FRAMES
 };
 
-/// Files fail at the first file and at the second, and the input at its begin and at its end. The output
-/// fails under answers and under the name of a line.
+/// Files fail at the first file and at the second, and the input at its begin and at its end. The
+/// output fails under answers and under the name of a line.
 pub(crate) static FAULTS: [Row; 7] = [
     Row {
         faults: (1, 0, 0),

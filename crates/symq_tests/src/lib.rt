@@ -1,5 +1,5 @@
-//! Tests of the program by runs in memory: of its answers, jobs, products, inputs and endings. Others are of
-//! parts of a run, and of what is said of a run that did not end well.
+//! Tests of the program by runs in memory: of its answers, jobs, products, inputs and endings. Others
+//! are of parts of a run, and of what is said of a run that did not end well.
 #![tactic(auto)]
 
 #[cfg(test)]

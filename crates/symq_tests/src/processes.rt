@@ -32,8 +32,8 @@ const PROCESSES: &[Edit] = &[
     Deny("/proc/9/maps"),
 ];
 
-/// Answers outside of the three mappings, in a part of the system, and in memory with a perf map. The last
-/// two are between two mappings, and in a mapped file that isn't an ELF file.
+/// Answers outside of the three mappings, in a part of the system, and in memory with a perf map. The
+/// last two are between two mappings, and in a mapped file that isn't an ELF file.
 const FIVE: Row = Row {
     lines: &[
         &["process", "7"],
@@ -63,8 +63,8 @@ const REFUSED: Row = Row {
     ..FIVE
 };
 
-/// How runs over processes end: by mappings, mapped files, a perf map, words, and an input with a bad line.
-/// The mappings may be absent, not to be read, bad, or none.
+/// How runs over processes end: by mappings, mapped files, a perf map, words, and an input with a bad
+/// line. The mappings may be absent, not to be read, bad, or none.
 pub(crate) static ROWS: [Row; 12] = [
     FIVE,
     MISUSED,

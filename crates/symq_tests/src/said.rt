@@ -10,8 +10,8 @@ use std::alloc::Global;
 /// The words of a run, which stand between spaces, and how what is said of it begins, or nothing.
 type Said = (&'static str, &'static str);
 
-/// How runs ended; how many calls failed on standard input, on standard output, and on files; and what is
-/// said of them.
+/// How runs ended; how many calls failed on standard input, on standard output, and on files; and what
+/// is said of them.
 type Runs = (Status, (u64, u64, u64), &'static [Said]);
 
 /// Runs refused for the text of a Breakpad file, and runs refused for something else, of which

@@ -85,8 +85,8 @@ const CUT: Row = Row {
     ..CHANGING
 };
 
-/// The first two requests look for a stamp and for bytes. The third and the last one look for a stamp that
-/// isn't there, and the fourth one doesn't look.
+/// The first two requests look for a stamp and for bytes. The third and the last one look for a stamp
+/// that isn't there, and the fourth one doesn't look.
 pub(crate) static FAULTS: [Row; 8] = [
     Row {
         faults: (1, 0, 0),

@@ -27,7 +27,8 @@ pub(crate) const WHOLE: &str =
 
 pub(crate) const BARE: &str = "0x1010: another func+0x10 start 0x1000 size 0x30 module bar at -\n";
 
-/// Two flags and the option, each in each place, and words behind `--`, none of which show in the answer.
+/// Two flags and the option, each in each place, and words behind `--`, none of which show in the
+/// answer.
 const ANSWERED: Row = Row {
     lines: &[
         &["breakpad", "/s.sym"],

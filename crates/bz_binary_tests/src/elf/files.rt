@@ -297,9 +297,10 @@ fn shows(alloc: Global, bytes: &[u8], (place, new, look): &Row) -> bool {
 
 #[test]
 fn files_are_taken_or_refused_by_fields_and_length(rt: HostRuntime) {
-    for index in 0..FIELDS.len() {
+    let fields = &FIELDS;
+    for index in 0..fields.len() {
         assert!(rt;
-            shows(rt.alloc(), &ELF_FUNCTION, &FIELDS[index]),
+            shows(rt.alloc(), &ELF_FUNCTION, &fields[index]),
             "row {index}"
         );
     }
@@ -363,9 +364,10 @@ fn answers_by_order(alloc: Global) -> Result<bool, AllocError> {
 
 #[test]
 fn answers_by_the_nearest_symbol_and_the_first_segment(rt: HostRuntime) {
-    for index in 0..ANSWERS.len() {
+    let answers = &ANSWERS;
+    for index in 0..answers.len() {
         assert!(rt;
-            shows(rt.alloc(), &ELF_FUNCTION, &ANSWERS[index]),
+            shows(rt.alloc(), &ELF_FUNCTION, &answers[index]),
             "row {index}"
         );
     }

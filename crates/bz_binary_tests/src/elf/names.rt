@@ -56,8 +56,8 @@ static NAMES: [Row; 24] = [
     (b"", &[0], &[]),
 ];
 
-/// A file with these strings, and with functions of one byte each, from the address 0 on, that have their
-/// names at these places.
+/// A file with these strings, and with functions of one byte each, from the address 0 on, that have
+/// their names at these places.
 fn with_names(alloc: Global, strings: &[u8], places: &[u32]) -> Result<Vec<u8>, AllocError> {
     let mut symbols = Vec::new(alloc);
     for (i, place) in places.iter().enumerate() {
@@ -71,7 +71,8 @@ fn with_names(alloc: Global, strings: &[u8], places: &[u32]) -> Result<Vec<u8>, 
     with_symbols(alloc, symbols.as_slice(), strings)
 }
 
-/// Whether the functions, of one byte each from the address 0 on, have these names, of which there are some.
+/// Whether the functions, of one byte each from the address 0 on, have these names, of which there are
+/// some.
 fn are_named(alloc: Global, file: &ElfFile, names: &[&'static str]) -> bool {
     for (i, name) in names.iter().enumerate() {
         let addr = i as u64;
@@ -95,7 +96,8 @@ fn has_names(alloc: Global, (strings, places, names): &Row) -> bool {
 
 #[test]
 fn names_are_utf_8_that_a_zero_byte_ends(rt: HostRuntime) {
-    for index in 0..NAMES.len() {
-        assert!(rt; has_names(rt.alloc(), &NAMES[index]), "row {index}");
+    let names = &NAMES;
+    for index in 0..names.len() {
+        assert!(rt; has_names(rt.alloc(), &names[index]), "row {index}");
     }
 }

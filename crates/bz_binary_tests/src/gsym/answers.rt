@@ -362,15 +362,17 @@ pub(crate) fn answers(alloc: Global, file: &[u8], row: &Row) -> bool {
 
 #[test]
 fn files_answer_for_addresses_or_are_refused(rt: HostRuntime) {
-    for index in 0..LINES.len() {
+    let rows = &LINES;
+    for index in 0..rows.len() {
         assert!(rt;
-            answers(rt.alloc(), &GSYM_LINES, &LINES[index]),
+            answers(rt.alloc(), &GSYM_LINES, &rows[index]),
             "row {index} of lines"
         );
     }
-    for index in 0..CALLS.len() {
+    let calls = &CALLS;
+    for index in 0..calls.len() {
         assert!(rt;
-            answers(rt.alloc(), &GSYM_CALLS, &CALLS[index]),
+            answers(rt.alloc(), &GSYM_CALLS, &calls[index]),
             "row {index} of calls"
         );
     }

@@ -8,7 +8,8 @@ use std::alloc::Global;
 /// A place in the file, the bytes that stand from there on, and whether it is taken then.
 type Row = (usize, &'static [u8], bool);
 
-/// Each field of the head is 0, its greatest value, the last one that the bytes hold, and one past that.
+/// Each field of the head is 0, its greatest value, the last one that the bytes hold, and one past
+/// that.
 static HEADS: [Row; 34] = [
     // The magic number.
     (0, b"\0\0\0\0", false),
@@ -74,13 +75,15 @@ fn is_taken(alloc: Global, file: &[u8], (place, new, expected): &Row) -> bool {
 
 #[test]
 fn heads_are_taken_or_refused_by_fields_and_length(rt: HostRuntime) {
-    for index in 0..HEADS.len() {
+    let heads = &HEADS;
+    for index in 0..heads.len() {
         assert!(rt;
-            is_taken(rt.alloc(), &GSYM_LINES, &HEADS[index]),
+            is_taken(rt.alloc(), &GSYM_LINES, &heads[index]),
             "row {index}"
         );
     }
-    // Of a file that is cut the string table has to be whole: the last of the tables, which ends at 102.
+    // Of a file that is cut the string table has to be whole: the last of the tables, which ends at
+    // 102.
     for len in 0..104usize {
         assert!(rt;
             is_taken(rt.alloc(), &GSYM_LINES[..len], &(0, b"", len >= 102)),

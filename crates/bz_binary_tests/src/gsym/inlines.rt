@@ -48,8 +48,8 @@ const FAR: &[u8] =
 const RANGES: &[u8] =
     b"\x02\x08\x04\x20\x04\x01\x01\0\0\0\x00\x00\x01\x18\x01\x00\x0e\0\0\0\x01\x09\x01\x19\x01\x00\x02\0\0\0\x01\x06\x00";
 
-/// A tree, an address, whether the tree is taken, and the frames around the address. Each tree's base is
-/// 0x1000.
+/// A tree, an address, whether the tree is taken, and the frames around the address. Each tree's base
+/// is 0x1000.
 type TreeRow = (&'static [u8], u64, bool, &'static [InlineFrame]);
 
 /// Trees that are taken for an address, and then ones that are refused for one.
@@ -147,8 +147,9 @@ fn walks_deep(alloc: Global) -> Result<bool, AllocError> {
 
 #[test]
 fn trees_give_the_frames_around_an_address_or_are_refused(rt: HostRuntime) {
-    for index in 0..TREES.len() {
-        let (bytes, addr, taken, frames) = TREES[index];
+    let trees = &TREES;
+    for index in 0..trees.len() {
+        let (bytes, addr, taken, frames) = trees[index];
         assert!(rt;
             gives(rt.alloc(), bytes, addr, taken, frames),
             "row {index}"

@@ -24,8 +24,8 @@ const TWO_FILES: &[u8] = b"\x7c\x0a\x05\x08\x01\x02\x03\x01\x82";
 /// Rows at the last address and, by a special operator, at the first one.
 const WRAPS: &[u8] = b"\x7c\x0a\x05\x02\xff\xdf\xff\xff\xff\xff\xff\xff\xff\x01\x13";
 
-/// A table of a symbol at 0x1000, an address, and the state that answers. The least and the greatest line
-/// delta are mostly -4 and 10, so that there are 15.
+/// A table of a symbol at 0x1000, an address, and the state that answers. The least and the greatest
+/// line delta are mostly -4 and 10, so that there are 15.
 type Row = (&'static [u8], u64, State);
 
 static TABLES: [Row; 50] = [
@@ -198,8 +198,9 @@ fn answers_by_state(alloc: Global, (table, addr, state): &Row) -> Result<bool, A
 
 #[test]
 fn lines_answer_for_addresses_or_none_does(rt: HostRuntime) {
-    for index in 0..TABLES.len() {
-        let row = &TABLES[index];
+    let tables = &TABLES;
+    for index in 0..tables.len() {
+        let row = &tables[index];
         assert!(rt; answering(row.0, row.1) == row.2, "state of row {index}");
         assert!(rt;
             answers_by_state(rt.alloc(), row) == Ok(true),
@@ -267,7 +268,8 @@ fn reads_a_head() -> bool {
 #[test]
 fn heads_are_read_and_operators_run_one_by_one(rt: HostRuntime) {
     assert!(rt; reads_a_head(), "a head");
-    for index in 0..OPERATORS.len() {
-        assert!(rt; runs(&OPERATORS[index]), "row {index}");
+    let operators = &OPERATORS;
+    for index in 0..operators.len() {
+        assert!(rt; runs(&operators[index]), "row {index}");
     }
 }

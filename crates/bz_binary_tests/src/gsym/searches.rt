@@ -108,8 +108,8 @@ const LAST_BASE: [u8; 60] = [
     0x01, 0x00, 0x00, 0x00, 0x00, 0x00, 0x00, 0x00, 0x00, 0x00, 0x00, 0x00,
 ];
 
-/// A file, a place in it, and the bytes that stand from there on. Then an address, and the index and the
-/// start that are found for it.
+/// A file, a place in it, and the bytes that stand from there on. Then an address, and the index and
+/// the start that are found for it.
 type Row = (
     &'static [u8],
     usize,
@@ -156,15 +156,17 @@ fn finds(alloc: Global, (file, place, new, addr, index, start): &Row) -> bool {
 
 #[test]
 fn searches_find_the_nearest_start_or_none(rt: HostRuntime) {
-    for index in 0..STARTS.len() {
+    let rows = &STARTS;
+    for index in 0..rows.len() {
         for size in SIZES {
             assert!(rt;
-                finds_as_scanned(rt.alloc(), *size, STARTS[index]),
+                finds_as_scanned(rt.alloc(), *size, rows[index]),
                 "starts {index} of size {size}"
             );
         }
     }
-    for index in 0..FOUND.len() {
-        assert!(rt; finds(rt.alloc(), &FOUND[index]), "row {index}");
+    let found = &FOUND;
+    for index in 0..found.len() {
+        assert!(rt; finds(rt.alloc(), &found[index]), "row {index}");
     }
 }

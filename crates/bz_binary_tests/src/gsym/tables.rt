@@ -81,8 +81,9 @@ fn lists(bytes: &[u8], expected: &[(u32, usize)]) -> bool {
 #[test]
 fn tables_and_data_entries_are_read(rt: HostRuntime) {
     assert!(rt; reads_tables(), "tables");
-    for index in 0..ENTRIES.len() {
-        let (bytes, expected) = ENTRIES[index];
+    let rows = &ENTRIES;
+    for index in 0..rows.len() {
+        let (bytes, expected) = rows[index];
         assert!(rt; lists(bytes, expected), "entries of row {index}");
     }
 }

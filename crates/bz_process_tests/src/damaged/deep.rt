@@ -93,8 +93,8 @@ fn has_calls(alloc: Global, context: &GsymContext<'_>, addr: u64, count: Option<
     )
 }
 
-/// Whether a file answers by so many calls in its nodes and behind them. Its tree has so many bytes, and
-/// the nodes are one inside the other, each of 0x20 bytes.
+/// Whether a file answers by so many calls in its nodes and behind them. Its tree has so many bytes,
+/// and the nodes are one inside the other, each of 0x20 bytes.
 fn has_tree(
     alloc: Global,
     len: &[u8],
@@ -148,7 +148,8 @@ fn is_so(answer: Result<bool, Error>) -> bool {
     }
 }
 
-/// Whether the whole tree answers, and one without its last byte is refused in the nodes and behind them.
+/// Whether the whole tree answers, and one without its last byte is refused in the nodes and behind
+/// them.
 fn trees_answer(alloc: Global) -> bool {
     is_so(has_tree(alloc, WHOLE, Some(99_999), Some(0)))
         && is_so(has_tree(alloc, UNENDED, None, None))

@@ -29,8 +29,8 @@ fn tells_mappings(alloc: Global, len: usize, expected: Option<usize>) -> bool {
     }
 }
 
-/// From how many bytes on, up to how many, and whether a perf map of three functions is taken then. It isn't
-/// where its last line doesn't reach to its name.
+/// From how many bytes on, up to how many, and whether a perf map of three functions is taken then. It
+/// isn't where its last line doesn't reach to its name.
 static PERF_MAPS: [(usize, usize, bool); 7] = [
     (0, 0, true),
     (1, 14, false),

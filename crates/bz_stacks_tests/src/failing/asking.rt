@@ -105,7 +105,7 @@ fn counted<L: Ledger>(
 ) -> Result<bool>
     requires name { blank.name ≡ L.name }
     requires parts { blank.parts ≡ L.parts }
-    requires some { 0 < L.parts }
+    requires positive { 0 < L.parts }
 {
     let mut steps = Steps::<L>::new(blank);
     let answers = symbolizer.symbolize_counted(alloc, files, src, input, &mut steps)?;
@@ -124,7 +124,7 @@ fn looked_up<L: Ledger>(
 ) -> Result<bool>
     requires name { blank.name ≡ L.name }
     requires parts { blank.parts ≡ L.parts }
-    requires some { 0 < L.parts }
+    requires positive { 0 < L.parts }
 {
     let mut steps = Steps::<L>::new(blank);
     let lookups = symbolizer.look_up(alloc, files, src, input, &mut steps)?;

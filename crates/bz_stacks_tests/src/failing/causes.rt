@@ -153,8 +153,9 @@ static STEPS: [Step; 4] = [
 
 #[test]
 fn each_call_is_refused_by_its_cause(rt: HostRuntime) {
-    for index in 0..CAUSES.len() {
-        let row = &CAUSES[index];
+    let causes = &CAUSES;
+    for index in 0..causes.len() {
+        let row = &causes[index];
         assert!(rt;
             hold(rt.alloc(), (row.0, &Call::Batch, 0, &row.1), &STEPS),
             "row {index}"

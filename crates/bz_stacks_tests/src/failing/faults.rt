@@ -145,8 +145,9 @@ static ROWS: [(&Asked, &[Step]); 2] = [
 
 #[test]
 fn files_answer_or_are_refused_by_what_they_are_then(rt: HostRuntime) {
-    for index in 0..ROWS.len() {
-        let (asked, steps) = ROWS[index];
+    let rows = &ROWS;
+    for index in 0..rows.len() {
+        let (asked, steps) = rows[index];
         assert!(rt;
             hold(rt.alloc(), (asked, &Call::Batch, 0, NO_CAUSE), steps),
             "row {index}"

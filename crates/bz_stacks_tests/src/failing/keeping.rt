@@ -103,8 +103,8 @@ static ROWS: [(&[(u64, Cause)], &[Step]); 3] = [
             Step::Answer(Ok(true)),
         ],
     ),
-    // A refused registration takes nothing in: the file that is there is read. After that the path has a
-    // version, and another registration is refused.
+    // A refused registration takes nothing in: the file that is there is read. After that the path has
+    // a version, and another registration is refused.
     (
         REGISTRATIONS,
         &[
@@ -121,8 +121,9 @@ static ROWS: [(&[(u64, Cause)], &[Step]); 3] = [
 
 #[test]
 fn a_refused_request_changes_nothing(rt: HostRuntime) {
-    for row in 0..ROWS.len() {
-        let (refusals, steps) = ROWS[row];
+    let rows = &ROWS;
+    for row in 0..rows.len() {
+        let (refusals, steps) = rows[row];
         for index in 0..refusals.len() {
             let refused = &refusals[index];
             assert!(rt;

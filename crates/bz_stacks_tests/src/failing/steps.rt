@@ -19,8 +19,8 @@ pub(crate) enum There {
     Bytes,
 }
 
-/// Why calls are refused: the kind of addresses that they ask for, what is at the source's path, and with
-/// which bytes. How they are refused then comes last.
+/// Why calls are refused: the kind of addresses that they ask for, what is at the source's path, and
+/// with which bytes. How they are refused then comes last.
 pub(crate) type Cause = (Input<()>, There, &'static [u8], Error);
 
 /// What is there where no cause is told.
@@ -75,8 +75,8 @@ fn put_cause(alloc: Global, files: &mut MemFiles, path: &'static str, cause: &Ca
     }
 }
 
-/// Whether each call, and a batch without addresses, is refused by the cause. Addresses of processes aren't
-/// looked up.
+/// Whether each call, and a batch without addresses, is refused by the cause. Addresses of processes
+/// aren't looked up.
 fn refuse_each(
     alloc: Global,
     symbolizer: &mut Symbolizer,
