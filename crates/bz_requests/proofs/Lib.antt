@@ -1,5 +1,6 @@
 pub mod AddressLemmas
 pub mod FieldLemmas
+pub mod InputTextLemmas
 pub mod LineGrammarLemmas
 pub mod OptionLemmas
 pub mod ReadingLemmas

@@ -1,4 +1,5 @@
 pub mod Addresses
 pub mod Fields
+pub mod InputText
 pub mod Lines
 pub mod Requests

@@ -5,7 +5,7 @@ use Rattle.bz_base.specs.Line.{all_lines, begins_line}
 use Rattle.bz_requests.specs.Lines.{content_of, read_lines, said_in, with_said}
 use Rattle.bz_stacks.specs.Spelling.{stack_in, stacks_in}
 use Rattle.bz_stacks.specs.Stack.{CountedStack}
-use Rattle.bz_symq.specs.InputText.{greatest_input}
+use Rattle.bz_requests.specs.InputText.{greatest_input}
 
 -- there are no more lines than bytes
 lines_few : (text : List ℕ) → length (all_lines text) ≤ length text

@@ -11,12 +11,12 @@ use Rattle.bz_stacks.specs.Spelling.{IsStack, stack_in, stacks_in}
 use Rattle.bz_stacks.specs.Stack.{CountedStack}
 use Rattle.bz_stacks.proofs.SpellingLemmas.{stack_agrees}
 use Rattle.bz_symq.specs.Command.{Asking, Breakpad, of_file}
-use Rattle.bz_symq.specs.InputText.{AsksFor, IsBadInput, greatest_input}
+use Rattle.bz_requests.specs.InputText.{AsksFor, IsBadInput, greatest_input}
 use Rattle.bz_symq.specs.Outcome.{Outcome}
 use Rattle.bz_symq.specs.Run.{Ends}
 use Rattle.bz_symq.specs.Targets.{IsCause, IsFileCause, IsRefusalOf}
 use Rattle.bz_symq.specs.declared.status.Status.TheVariants as statuses
-use Rattle.bz_symq.proofs.InputTextLemmas.{asks_from_read, bad_from_read}
+use Rattle.bz_requests.proofs.InputTextLemmas.{asks_from_read, bad_from_read}
 use Rattle.bz_symq.proofs.TargetLemmas.{answers_found, answers_given, cause_found, refusal_given}
 use Rattle.bz_stacks.specs.Fold.{addrs_of}
 use Rattle.bz_run.specs.StackOutcome.{answers_in, by_text, folded_by, stacks_outcome}

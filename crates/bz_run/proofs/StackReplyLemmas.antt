@@ -8,15 +8,15 @@ use Rattle.bz_files.specs.World.{World, Told}
 use Rattle.bz_requests.specs.declared.requests.Config.{Config}
 use Rattle.bz_stacks.specs.Spelling.{IsStack, stack_in, stacks_in}
 use Rattle.bz_stacks.proofs.SpellingLemmas.{stack_agrees}
-use Rattle.bz_symq.proofs.InputTextLemmas.{asks_from_read, bad_from_read, err_from_bad}
+use Rattle.bz_requests.proofs.InputTextLemmas.{asks_from_read, bad_from_read, err_from_bad}
 use Rattle.bz_symq.proofs.ReplyLemmas.{input_iff, names_bad, never_usage, no_failure_from, refused_read}
 use Rattle.bz_symq.specs.Command.{Breakpad}
-use Rattle.bz_symq.specs.InputText.{IsBadInput, greatest_input}
+use Rattle.bz_requests.specs.InputText.{IsBadInput, greatest_input}
 use Rattle.bz_symq.specs.Outcome.{Outcome, too_long}
 use Rattle.bz_symq.specs.Reply.{IsInputStatus, IsLineReply, IsRefusalReply, Replies, RepliesTo, RepliesUnread, outcome_of}
 use Rattle.bz_symq.specs.Targets.{IsSomeFileCause}
-use Rattle.bz_symq.specs.declared.input.ReadStop.{ReadStop}
-use Rattle.bz_symq.specs.declared.input.ReadStop.TheVariants as stops
+use Rattle.bz_requests.specs.declared.input.ReadStop.{ReadStop}
+use Rattle.bz_requests.specs.declared.input.ReadStop.TheVariants as stops
 use Rattle.bz_symq.specs.declared.reply.Reply.{Reply}
 use Rattle.bz_symq.specs.declared.status.Status.{Status}
 use Rattle.bz_symq.specs.declared.status.Status.TheVariants as statuses

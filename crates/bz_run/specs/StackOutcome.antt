@@ -9,7 +9,7 @@ use Rattle.bz_stacks.specs.Spelling.{stacks_in}
 use Rattle.bz_stacks.specs.Stack.{CountedStack}
 use Rattle.bz_stacks.specs.Text.{folded_text}
 use Rattle.bz_symbolize.specs.Lookup.{breakpad_answer, fresh_answer}
-use Rattle.bz_symq.specs.InputText.{by_length}
+use Rattle.bz_requests.specs.InputText.{by_length}
 use Rattle.bz_symq.specs.Kept.{opts_in}
 use Rattle.bz_symq.specs.Outcome.{Outcome, bad_line, done_with, refused, too_long}
 use Rattle.bz_stacks.specs.Fold.{addrs_of, seen_by}

@@ -11,12 +11,12 @@ use Rattle.bz_requests.specs.Lines.{HasBadLine}
 use Rattle.bz_requests.proofs.RequestLemmas.{request_agrees}
 use Rattle.bz_requests.specs.Requests.{IsRequest, Request, request_in, requests_in}
 use Rattle.bz_symq.proofs.FaultLemmas.{counts_as, counts_still, no_fault}
-use Rattle.bz_symq.proofs.InputTextLemmas.{asks_from_read, bad_from_read}
-use Rattle.bz_symq.specs.InputText.{AsksFor, IsBadInput, IsReadWhole, MovesAtMost, greatest_input, left_over}
+use Rattle.bz_requests.proofs.InputTextLemmas.{asks_from_read, bad_from_read}
+use Rattle.bz_requests.specs.InputText.{AsksFor, IsBadInput, IsReadWhole, MovesAtMost, greatest_input, left_over}
 use Rattle.bz_symq.specs.Outcome.{Outcome, NamesBad, bad_line, too_long}
 use Rattle.bz_symq.specs.Reply.{RepliesUnread}
-use Rattle.bz_symq.specs.declared.input.ReadStop.{ReadStop}
-use Rattle.bz_symq.specs.declared.input.ReadStop.TheVariants as stops
+use Rattle.bz_requests.specs.declared.input.ReadStop.{ReadStop}
+use Rattle.bz_requests.specs.declared.input.ReadStop.TheVariants as stops
 use Rattle.bz_symq.specs.declared.reply.Reply.{Reply}
 use Rattle.bz_serve.specs.Asked.{asked_in, asked_of, or_bad_line}
 use Rattle.bz_serve.specs.Requests.{HasInputStatus, ReadsRequests}

@@ -5,8 +5,8 @@ use Rattle.bz_base.specs.declared.types.FindSymOpts.{FindSymOpts}
 use Rattle.bz_files.specs.World.{World}
 use Rattle.bz_requests.proofs.LineGrammarLemmas.{first_bad_found}
 use Rattle.bz_store.specs.Frames.{Frame}
-use Rattle.bz_symq.proofs.InputTextLemmas.{asks_from_read, err_from_bad}
-use Rattle.bz_symq.specs.InputText.{IsBadInput, greatest_input}
+use Rattle.bz_requests.proofs.InputTextLemmas.{asks_from_read, err_from_bad}
+use Rattle.bz_requests.specs.InputText.{IsBadInput, greatest_input}
 use Rattle.bz_symq.specs.Outcome.{Outcome, NamesBad, too_long}
 use Rattle.bz_symq.specs.Reply.{text_of}
 use Rattle.bz_symq.specs.Run.{Ends}

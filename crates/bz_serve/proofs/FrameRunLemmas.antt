@@ -10,8 +10,8 @@ use Rattle.bz_files.specs.declared.text.TextOut as output_trait
 use Rattle.bz_store.specs.Frames.{Frame}
 use Rattle.bz_symq.proofs.EndLemmas.{IsFailure, done_no_failure, failed_ends, input_no_failure, never, order_unwritten, status_from}
 use Rattle.bz_symq.proofs.FaultLemmas.{fails_after, fails_as, fails_before, fault_from_fails, steady_from_fails}
-use Rattle.bz_symq.proofs.InputTextLemmas.{never_bad}
-use Rattle.bz_symq.specs.InputText.{AsksFor}
+use Rattle.bz_requests.proofs.InputTextLemmas.{never_bad}
+use Rattle.bz_requests.specs.InputText.{AsksFor}
 use Rattle.bz_symq.specs.Outcome.{Outcome, NamesBad}
 use Rattle.bz_symq.specs.Reply.{outcome_of, text_of}
 use Rattle.bz_symq.specs.Run.{Ends, Fails, IsBadNamed, IsNoFailure, IsOrFails}

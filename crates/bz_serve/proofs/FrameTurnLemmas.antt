@@ -12,14 +12,14 @@ use Rattle.bz_requests.proofs.LineGrammarLemmas.{items_again}
 use Rattle.bz_store.specs.Frames.{Frame}
 use Rattle.bz_symq.proofs.EndLemmas.{input_no_failure}
 use Rattle.bz_symq.proofs.FaultLemmas.{counts_as, counts_still, no_fault}
-use Rattle.bz_symq.proofs.InputTextLemmas.{err_from_bad}
+use Rattle.bz_requests.proofs.InputTextLemmas.{err_from_bad}
 use Rattle.bz_symq.proofs.ReplyLemmas.{when_given}
-use Rattle.bz_symq.specs.InputText.{IsBadInput, IsReadWhole, MovesAtMost, greatest_input, left_over}
+use Rattle.bz_requests.specs.InputText.{IsBadInput, IsReadWhole, MovesAtMost, greatest_input, left_over}
 use Rattle.bz_symq.specs.Outcome.{Outcome, NamesBad, too_long}
 use Rattle.bz_symq.specs.Reply.{Replies, RepliesUnread, outcome_of, text_of}
 use Rattle.bz_symq.specs.Run.{IsNoFailure}
-use Rattle.bz_symq.specs.declared.input.ReadStop.{ReadStop}
-use Rattle.bz_symq.specs.declared.input.ReadStop.TheVariants as stops
+use Rattle.bz_requests.specs.declared.input.ReadStop.{ReadStop}
+use Rattle.bz_requests.specs.declared.input.ReadStop.TheVariants as stops
 use Rattle.bz_symq.specs.declared.reply.Reply.{Reply}
 use Rattle.bz_symq.specs.declared.status.Status.TheVariants as statuses
 use Rattle.bz_serve.proofs.FrameLemmas.{frame_agrees}

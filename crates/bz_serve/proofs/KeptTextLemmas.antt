@@ -1,5 +1,4 @@
--- Kept mappings of each process are those of some text of its own, and each call of the symbolizer
--- leaves them so.
+-- Some text tells the kept mappings of each process, and each call of the symbolizer leaves that so.
 use Rattle.std.proofs.Common.{◌≡◌, Bool, true, false, cond, List, [], ◌∷◌, Option, Some, None, Result, Ok, Err, refl, sym, ap, subst, ◌∙◌}
 use Rattle.std.proofs.lemmas.Bool.{eqb-true}
 use Rattle.std.specs.BTreeMap.{insert_entry, is_at}
@@ -40,7 +39,7 @@ pid_is (pids.Pid n) pids.Slf is = cc is
 pid_is (pids.Pid n) (pids.Pid m) is = ap pids.Pid (ids_same n m (eqb-true _ _ (sym (unsigned_tied (non_zero_u32_get n) (non_zero_u32_get m)) ∙ is)))
 
 module _ (pid : Pid) where
-  -- those of a process are of some text of it
+  -- some text tells those of a process
   pub found_of_text : (kept : KeptMappings) (mappings : List Mapping) → AreKeptOfText kept → value_at pid_cmp kept pid ≡ Some mappings → AreOfText pid mappings
   found_of_text [] mappings all found = cc found
   found_of_text (entry ∷ kept) mappings all found = by_test (is_at (pid_cmp pid) entry.0) refl (found_of_text kept mappings all.1) found

@@ -14,7 +14,7 @@ use Rattle.bz_serve.specs.RequestRuns.{worlds_after}
 use Rattle.bz_serve.specs.Serving.{Serves}
 use Rattle.bz_symq.proofs.EndLemmas.{IsFailure, done_no_failure, failed_ends, input_no_failure, never}
 use Rattle.bz_symq.proofs.FaultLemmas.{counts_as, no_fault}
-use Rattle.bz_symq.specs.InputText.{IsBadInput}
+use Rattle.bz_requests.specs.InputText.{IsBadInput}
 use Rattle.bz_symq.specs.Reply.{outcome_of, text_of}
 use Rattle.bz_symq.specs.Run.{Ends, IsNoFailure, IsOrFails}
 use Rattle.bz_symq.specs.Writing.{Finishes}

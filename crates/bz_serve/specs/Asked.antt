@@ -5,7 +5,7 @@ use Rattle.bz_requests.specs.Requests.{IsRequest, Request, requests_in}
 use Rattle.bz_requests.specs.declared.requests.Config.{Config}
 use Rattle.bz_serve.specs.RequestRuns.{run_reads, run_text}
 use Rattle.bz_serve.specs.SomeReplies.{MayReply, WritesReplies}
-use Rattle.bz_symq.specs.InputText.{AsksFor, by_length}
+use Rattle.bz_requests.specs.InputText.{AsksFor, by_length}
 use Rattle.bz_symq.specs.Kept.{opts_in}
 use Rattle.bz_symq.specs.Outcome.{Outcome, bad_line, done_with, too_long}
 use Rattle.bz_symq.specs.Reply.{outcome_of}

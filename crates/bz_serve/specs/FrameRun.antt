@@ -8,7 +8,7 @@ use Rattle.bz_files.specs.declared.text.TextIn as input_trait
 use Rattle.bz_files.specs.declared.text.TextOut as output_trait
 use Rattle.bz_store.specs.Frames.{Frame, FrameReading}
 use Rattle.bz_store.specs.Plain.{answer_in}
-use Rattle.bz_symq.specs.InputText.{AsksFor, IsBadInput, IsReadWhole, MovesAtMost, by_length, greatest_input}
+use Rattle.bz_requests.specs.InputText.{AsksFor, IsBadInput, IsReadWhole, MovesAtMost, by_length, greatest_input}
 use Rattle.bz_symq.specs.Outcome.{Outcome, too_long}
 use Rattle.bz_symq.specs.Run.{Ends, Fails, IsBadNamed, IsNoFailure, IsOrFails}
 use Rattle.bz_symq.specs.declared.status.Status.{Status}

@@ -7,7 +7,7 @@ use Rattle.bz_files.specs.World.{Told, in_view}
 use Rattle.bz_files.specs.declared.files.Files as files_trait
 use Rattle.bz_files.specs.declared.text.TextIn as input_trait
 use Rattle.bz_store.specs.Frames.{Frame, FrameReading}
-use Rattle.bz_symq.specs.InputText.{AsksFor, IsBadInput, IsReadWhole, MovesAtMost, greatest_input}
+use Rattle.bz_requests.specs.InputText.{AsksFor, IsBadInput, IsReadWhole, MovesAtMost, greatest_input}
 use Rattle.bz_symq.specs.Reply.{IsBadReply, Replies, text_of}
 use Rattle.bz_symq.specs.Run.{IsNoFailure}
 use Rattle.bz_symq.specs.Turns.{FailsAtOne}

@@ -11,7 +11,7 @@ use Rattle.bz_requests.specs.Requests.{IsRequest}
 use Rattle.bz_requests.specs.declared.requests.Config.{Config}
 use Rattle.bz_serve.specs.RequestRuns.{worlds_after}
 use Rattle.bz_serve.specs.Serving.{ToldWorlds}
-use Rattle.bz_symq.specs.InputText.{IsBadInput, IsReadWhole, MovesAtMost, greatest_input}
+use Rattle.bz_requests.specs.InputText.{IsBadInput, IsReadWhole, MovesAtMost, greatest_input}
 use Rattle.bz_symq.specs.Run.{Ends, IsBadNamed, IsNoFailure, IsOrFails}
 use Rattle.bz_symq.specs.declared.status.Status.{Status}
 use Rattle.bz_symq.specs.declared.status.Status.TheVariants as statuses

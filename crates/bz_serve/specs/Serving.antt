@@ -58,7 +58,7 @@ abbrev pub stop_by : Error → Stop
 stop_by errors.ReadFault = stops.Files
 stop_by _ = stops.Memory
 
--- whatever was told, each process whose mappings are kept has those of some text of its own
+-- whatever was told, some text tells the kept mappings of each process
 abbrev pub AreKeptOfText : KeptMappings → Type 0
 AreKeptOfText kept = AllByRecursion (λ entry. AreOfText entry.0 entry.1) kept
 

@@ -62,8 +62,7 @@ pub record Circumstances : Type 0 where
 abbrev pub asked_under : Circumstances → ℕ → Asked
 asked_under so number = asked_of so.own (query_by so.map_files number)
 
--- the process with this number gave these answers, by the mappings of some text of its own, whether
--- they were kept or not
+-- the process with this number gave these answers, by mappings that some text tells, kept or not
 abbrev pub AreSomeGiven : ℕ → List ℕ → List Answer → Type 0
 AreSomeGiven number addrs answers = (so : Circumstances) × AreByMappings (asked_under so number) None addrs answers so.old so.now
 

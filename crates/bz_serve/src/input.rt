@@ -8,8 +8,8 @@ ghost use Rattle.bz_requests.specs.Requests.{requests_in};
 
 use bz_base::{Error, Result};
 use bz_files::TextIn;
-use bz_requests::{BadInput, Request, read_requests};
-use bz_symq::{Reply, bad_line, read_input, unread};
+use bz_requests::{BadInput, Request, read_input, read_requests};
+use bz_symq::{Reply, bad_line, unread};
 use std::alloc::Global;
 
 /// What an input asks for.

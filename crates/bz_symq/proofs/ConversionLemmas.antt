@@ -2,10 +2,10 @@
 use Rattle.std.proofs.Common.{◌≡◌, ◌≢◌, ℕ, List, Result, Ok, Err, IfOk, sym, ap, ◌∙◌}
 use Rattle.bz_base.specs.declared.error.Error.{Error}
 use Rattle.bz_breakpad.specs.Table.{Table}
+use Rattle.bz_convert.specs.Converted.{IsConversion, conversion}
 use Rattle.bz_convert.specs.declared.error.ConvertError.{ConvertError}
 use Rattle.bz_convert.specs.declared.error.ConvertError.TheVariants.{OutOfMemory}
-use Rattle.bz_converting.proofs.ConversionLemmas.{converted}
-use Rattle.bz_converting.specs.Converted.{IsConversion, conversion}
+use Rattle.bz_convert.proofs.ConvertedLemmas.{converted}
 use Rattle.bz_symq.specs.Outcome.{Outcome, by_product}
 use Rattle.bz_symq.specs.Products.{by_conversion}
 use Rattle.bz_symq.specs.Reply.{outcome_of}

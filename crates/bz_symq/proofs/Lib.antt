@@ -3,7 +3,6 @@ pub mod CauseLemmas
 mod ConversionLemmas
 pub mod EndLemmas
 pub mod FaultLemmas
-pub mod InputTextLemmas
 mod OpenLemmas
 mod OutputLemmas
 pub mod ProcessLemmas

@@ -10,7 +10,7 @@ use Rattle.bz_symq.specs.Command.{Asking, Command, Batch, Make, Target, OneFile,
 use Rattle.bz_symq.specs.Processes.{process_batch}
 use Rattle.bz_symq.specs.Run.{Asks, UnlessProcess, UnlessProcessTarget}
 use Rattle.bz_symq.specs.Turns.{ReadsFor, ReadsForBatch, ReadsForInput}
-use Rattle.bz_symq.proofs.InputTextLemmas.{addresses_again}
+use Rattle.bz_requests.proofs.InputTextLemmas.{addresses_again}
 
 module _ {F : Type 0} (looks : files_trait.Ghosts F) (answered : Type 0) (before after : F) where
   -- one file at most was read, unless a process was asked

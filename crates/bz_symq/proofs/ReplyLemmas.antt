@@ -14,19 +14,19 @@ use Rattle.bz_requests.proofs.LineGrammarLemmas.{first_bad_found}
 use Rattle.bz_requests.specs.Addresses.{IsAddress, address_in, addresses_in}
 use Rattle.bz_requests.specs.Lines.{ReadsAsSpelled, items_in}
 use Rattle.bz_symq.specs.Command.{Asking, Command, Batch, Make, Product}
-use Rattle.bz_symq.specs.InputText.{greatest_input}
+use Rattle.bz_requests.specs.InputText.{greatest_input}
 use Rattle.bz_symq.specs.Outcome.{Outcome, by_addresses, by_answer, by_product, run_outcome, too_long}
 use Rattle.bz_symq.specs.Products.{made_in}
 use Rattle.bz_symq.specs.Reply.{outcome_of, text_of, IsBadReply, IsInputReply, IsInputStatus, IsLineReply, IsProductReply, IsProductStatus, IsRefusalReply, IsRunRefusal, IsRunReply, IsSomeCauseOrFails, IsUnmadeReply, Replies, RepliesTo, RepliesToCommand, RepliesUnread}
 use Rattle.bz_symq.specs.Run.{IsBadInput, IsNoFailure}
 use Rattle.bz_symq.specs.Targets.{IsSomeCause, takes}
 use Rattle.bz_symq.specs.Turns.{TakesTurns}
-use Rattle.bz_symq.specs.declared.input.ReadStop.{ReadStop}
-use Rattle.bz_symq.specs.declared.input.ReadStop.TheVariants as stops
+use Rattle.bz_requests.specs.declared.input.ReadStop.{ReadStop}
+use Rattle.bz_requests.specs.declared.input.ReadStop.TheVariants as stops
 use Rattle.bz_symq.specs.declared.reply.Reply.{Reply}
 use Rattle.bz_symq.specs.declared.status.Status.{Status}
 use Rattle.bz_symq.specs.declared.status.Status.TheVariants as statuses
-use Rattle.bz_symq.proofs.InputTextLemmas.{addresses_found}
+use Rattle.bz_requests.proofs.InputTextLemmas.{addresses_found}
 use Rattle.bz_symq.proofs.RunLemmas.{bad_from_read, err_from_bad}
 
 -- the answers that look-ups are read as

@@ -9,15 +9,15 @@ use Rattle.bz_requests.proofs.LineGrammarLemmas.{first_bad_again}
 use Rattle.bz_requests.specs.Addresses.{IsAddress, address_in, addresses_in}
 use Rattle.bz_requests.specs.Lines.{HasBadLine}
 use Rattle.bz_symq.specs.Command.{Asking, Command, Batch, Make, Product}
-use Rattle.bz_symq.specs.InputText.{greatest_input}
+use Rattle.bz_requests.specs.InputText.{greatest_input}
 use Rattle.bz_symq.specs.Outcome.{Outcome, run_outcome, by_addresses, by_answer, by_product, too_long}
 use Rattle.bz_symq.specs.Products.{made_in}
 use Rattle.bz_symq.specs.Run.{Asks, Ends, IsAnswerable, IsBadInput, IsDone, IsMade, IsMakeable, IsRefusable, IsRefused, IsUnmade, IsUnmakeable}
 use Rattle.bz_symq.specs.Targets.{answer_to}
 use Rattle.bz_symq.specs.declared.status.Status.{Status}
 use Rattle.bz_symq.specs.declared.status.Status.TheVariants as statuses
-use Rattle.bz_symq.proofs.InputTextLemmas as inputs
-use Rattle.bz_symq.proofs.InputTextLemmas.{addresses_found, addresses_again}
+use Rattle.bz_requests.proofs.InputTextLemmas as inputs
+use Rattle.bz_requests.proofs.InputTextLemmas.{addresses_found, addresses_again}
 use Rattle.bz_symq.proofs.ProductLemmas.{made_found, made_given, unmade_found, unmade_given}
 use Rattle.bz_symq.proofs.TargetLemmas.{answers_found, answers_given, cause_found, has_answers, refusal_given}
 

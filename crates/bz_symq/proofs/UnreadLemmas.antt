@@ -4,11 +4,11 @@ use Rattle.bz_base.specs.declared.error.Error.{Error}
 use Rattle.bz_files.specs.Count.{CountsFaults}
 use Rattle.bz_files.specs.Looked.{Faulted}
 use Rattle.bz_files.specs.World.{Told}
-use Rattle.bz_symq.specs.InputText.{IsReadWhole, left_over}
+use Rattle.bz_requests.specs.InputText.{IsReadWhole, left_over}
 use Rattle.bz_symq.specs.Outcome.{Outcome, too_long}
 use Rattle.bz_symq.specs.Reply.{IsDoneReply, RepliesUnread, outcome_of}
-use Rattle.bz_symq.specs.declared.input.ReadStop.{ReadStop}
-use Rattle.bz_symq.specs.declared.input.ReadStop.TheVariants as stops
+use Rattle.bz_requests.specs.declared.input.ReadStop.{ReadStop}
+use Rattle.bz_requests.specs.declared.input.ReadStop.TheVariants as stops
 use Rattle.bz_symq.specs.declared.reply.Reply.{Reply}
 use Rattle.bz_symq.specs.declared.status.Status.TheVariants as statuses
 use Rattle.bz_symq.proofs.FaultLemmas.{counts_as}

@@ -1,7 +1,6 @@
 pub mod Command
 pub mod Counted
 pub mod FileSources
-pub mod InputText
 pub mod Kept
 pub mod Outcome
 pub mod OwnPid

@@ -9,7 +9,7 @@ use Rattle.bz_requests.specs.Addresses.{addresses_in}
 use Rattle.bz_requests.specs.Lines.{IsFirstBad}
 use Rattle.bz_canon.specs.AnswerText.{answer_texts}
 use Rattle.bz_symq.specs.Command.{Asking, Command, Batch, Make}
-use Rattle.bz_symq.specs.InputText.{by_length, greatest_input}
+use Rattle.bz_requests.specs.InputText.{by_length, greatest_input}
 use Rattle.bz_symq.specs.Products.{made_in}
 use Rattle.bz_symq.specs.Targets.{answer_to}
 use Rattle.bz_symq.specs.declared.status.Status.{Status}

@@ -9,9 +9,9 @@ use Rattle.bz_breakpad.specs.Table.{Table}
 use Rattle.bz_breakpad.specs.Grammar.{IsFile}
 use Rattle.bz_breakpad.specs.Reader.{table_in}
 use Rattle.bz_canon.specs.Canon.{canonical_text}
+use Rattle.bz_convert.specs.Converted.{conversion}
 use Rattle.bz_convert.specs.ErrorNames as refusals
 use Rattle.bz_convert.specs.declared.error.ConvertError.{ConvertError}
-use Rattle.bz_converting.specs.Converted.{conversion}
 use Rattle.bz_symq.specs.Command.{Breakpad, Product, Converted, Canonical}
 use Rattle.bz_symq.specs.Targets.{HasFile, IsSomeFileCause}
 

@@ -12,8 +12,8 @@ use Rattle.bz_symq.specs.Outcome.{Outcome, NamesBad, bad_line, refused, refused_
 use Rattle.bz_symq.specs.Products.{MadeOfSome, UnmadeOfSome}
 use Rattle.bz_symq.specs.Run.{IsBadInput, IsNoFailure, IsSomeDone, IsSomeMade, IsSomeRefused, IsSomeUnmade}
 use Rattle.bz_symq.specs.Targets.{AnswersSome}
-use Rattle.bz_symq.specs.declared.input.ReadStop.{ReadStop}
-use Rattle.bz_symq.specs.declared.input.ReadStop.TheVariants as stops
+use Rattle.bz_requests.specs.declared.input.ReadStop.{ReadStop}
+use Rattle.bz_requests.specs.declared.input.ReadStop.TheVariants as stops
 use Rattle.bz_symq.specs.declared.reply.Reply.{Reply}
 use Rattle.bz_symq.specs.declared.reply.Said.{Said}
 use Rattle.bz_symq.specs.declared.reply.Said.TheVariants as saids

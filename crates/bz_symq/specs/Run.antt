@@ -12,8 +12,8 @@ use Rattle.bz_files.specs.declared.text.TextOut as output_trait
 use Rattle.bz_requests.specs.Addresses.{AreAddresses, IsAddress}
 use Rattle.bz_canon.specs.AnswerText.{answer_texts}
 use Rattle.bz_symq.specs.Command.{Asking, Batch, Command, Make, OneFile, OneProcess, Product, Target, seen_by}
-use Rattle.bz_symq.specs.InputText as inputs
-use Rattle.bz_symq.specs.InputText.{greatest_input, MovesAtMost}
+use Rattle.bz_requests.specs.InputText as inputs
+use Rattle.bz_requests.specs.InputText.{greatest_input, MovesAtMost}
 use Rattle.bz_symq.specs.Outcome.{Outcome, NamesBad, refused, refused_as, run_outcome}
 use Rattle.bz_symq.specs.Processes.{process_batch}
 use Rattle.bz_symq.specs.Products.{MadeIn, MadeOfSome, UnmadeIn, UnmadeOfSome}

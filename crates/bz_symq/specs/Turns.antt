@@ -9,7 +9,7 @@ use Rattle.bz_files.specs.declared.text.TextIn as input_trait
 use Rattle.bz_requests.specs.Addresses.{addresses_in}
 use Rattle.bz_requests.specs.declared.requests.Config.{Config}
 use Rattle.bz_symq.specs.Command.{Asking, Batch, Command, Make, OneFile, OneProcess, Product, Target}
-use Rattle.bz_symq.specs.InputText.{greatest_input, MovesAtMost}
+use Rattle.bz_requests.specs.InputText.{greatest_input, MovesAtMost}
 use Rattle.bz_symq.specs.Processes.{process_batch}
 use Rattle.bz_symq.specs.Run.{IsBadInput, IsReadWhole}
 use Rattle.bz_symq.specs.Targets.{takes}

@@ -1,9 +1,8 @@
-//! The program's parts: its input, one run of it, and the texts that it writes.
+//! The parts of a run of the program: one command, and the texts that it writes.
 #![tactic(auto)]
 
 mod asking;
 mod command;
-mod input;
 pub mod laws;
 mod output;
 mod own_process;
@@ -16,7 +15,6 @@ mod texts;
 
 pub use asking::new_symbolizer;
 pub use command::{Batch, Command, FileTarget, Product, Target};
-pub use input::{ReadStop, read_addrs, read_input};
 pub use output::{finish, write_said};
 pub use own_process::own_pid;
 pub use program::{failed, run_command, run_counted, unread};

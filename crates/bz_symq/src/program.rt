@@ -16,7 +16,6 @@ ghost use Rattle.bz_symq.specs.Turns.{FailsAtOne, ReadsFor, ReadsForInput, Reads
 
 use crate::asking::new_symbolizer;
 use crate::command::{Batch, Command, FileBatch, FileTarget, ProcessBatch, Target};
-use crate::input::{self, ReadStop};
 use crate::output::finish;
 use crate::process::reply_of_process;
 use crate::product::reply_with_product;
@@ -24,7 +23,7 @@ use crate::reply::{Reply, Said, bad_line, refusal, stored_reply};
 use crate::status::Status;
 use bz_base::{Error, Result, Steps};
 use bz_files::{Files, TextIn, TextOut};
-use bz_requests::BadInput;
+use bz_requests::{BadInput, ReadStop, read_addrs, read_input};
 use bz_symbolize::Lookups;
 use bz_symbolize::source::{Breakpad, Elf, GsymFile, Source};
 use std::alloc::Global;
@@ -136,7 +135,7 @@ fn reply_with_answers<R: TextIn, F: Files, L: Ledger>(
     ensures fails { FailsAtOne R.TextIn F.Files (Faulted result) input.old input.new files.old files.new }
     ensures steps { RunTakesFew (OneBatch (asking_of batch.now)) (R.left input.old) steps.old steps.new }
 {
-    match input::read_input(alloc, input) {
+    match read_input(alloc, input) {
         Ok(text) => reply_to_input(alloc, batch, text, files, steps),
         Err(stop) => unread(stop),
     }
@@ -161,7 +160,7 @@ fn reply_to_input<F: Files, L: Ledger>(
     ensures files { Looked F.Files files.old files.new (Faulted result) }
     ensures steps { InputTakesFew (target_of batch.now.target) (addresses_in text.items) steps.old steps.new }
 {
-    let read = input::read_addrs(alloc, text.as_slice());
+    let read = read_addrs(alloc, text.as_slice());
     drop(text);
     match read {
         Ok(addrs) => reply_to_batch(alloc, batch, addrs, files, steps),

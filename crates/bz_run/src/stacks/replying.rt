@@ -6,7 +6,7 @@ ghost use Rattle.bz_files.specs.Looked.{Faulted, Looked};
 ghost use Rattle.bz_files.specs.World.{Told, in_view};
 ghost use Rattle.bz_stacks.specs.Spelling.{stacks_in};
 ghost use Rattle.bz_symq.specs.Command.{Breakpad};
-ghost use Rattle.bz_symq.specs.InputText.{greatest_input};
+ghost use Rattle.bz_requests.specs.InputText.{greatest_input};
 ghost use Rattle.bz_symq.specs.Reply.{IsDoneReply, IsInputStatus, IsLineReply, IsRefusalReply, IsSomeCauseOrFails, Replies};
 ghost use Rattle.bz_symq.specs.Targets.{IsSomeFileCause};
 ghost use Rattle.bz_symq.specs.Turns.{FailsAtOne, ReadsOneFor};
@@ -16,9 +16,9 @@ ghost use Rattle.bz_run.specs.StackReply.{IsInputReply, IsSomeText, IsTextReply,
 use crate::source::breakpad_source;
 use bz_base::{Error, Input, Result};
 use bz_files::{Files, TextIn};
-use bz_requests::Config;
+use bz_requests::{Config, read_input};
 use bz_stacks::{Stack, StackError, fold, read_stacks};
-use bz_symq::{Reply, bad_line, made_reply, new_symbolizer, read_input, refusal, unread};
+use bz_symq::{Reply, bad_line, made_reply, new_symbolizer, refusal, unread};
 use std::alloc::Global;
 
 /// What a run over an input of stacks ends with and writes, before any of it is written.

@@ -1,7 +1,7 @@
 use Rattle.std.proofs.Common.{◌≤◌, length, arith}
 use Rattle.bz_symq.proofs.FaultLemmas.{no_fault}
-use Rattle.bz_symq.specs.InputText.{greatest_input}
-use Rattle.bz_symq.proofs.InputTextLemmas.{over_at_end}
+use Rattle.bz_requests.specs.InputText.{greatest_input}
+use Rattle.bz_requests.proofs.InputTextLemmas.{over_at_end}
 use Rattle.bz_serve.proofs.AskedLemmas.{lines_asked, stopped_asked}
 use Rattle.bz_serve.proofs.input.requests_asked.Goals as goal
 

@@ -1,4 +1,4 @@
-use Rattle.bz_converting.proofs.ConversionLemmas.{refused}
+use Rattle.bz_convert.proofs.ConvertedLemmas.{refused}
 use Rattle.bz_symq.proofs.ConversionLemmas.{converted_reply, unconverted_reply}
 use Rattle.bz_symq.proofs.product.reply_of_conversion.Goals as goal
 

@@ -1,7 +1,7 @@
 use Rattle.std.proofs.Common.{◌≤◌, length, refl, inl, inr, arith}
 use Rattle.bz_symq.specs.Command.{Batch, asking_of, target_of}
-use Rattle.bz_symq.specs.InputText.{greatest_input}
-use Rattle.bz_symq.proofs.InputTextLemmas.{over_at_end}
+use Rattle.bz_requests.specs.InputText.{greatest_input}
+use Rattle.bz_requests.proofs.InputTextLemmas.{over_at_end}
 use Rattle.bz_symq.proofs.ReadLemmas.{input_reads, none_read_for}
 use Rattle.bz_symq.proofs.ReplyLemmas.{given_always, no_make, reply_from_input, reply_from_unread, takes_same, when_given}
 use Rattle.bz_symq.proofs.RunLemmas.{err_from_bad}

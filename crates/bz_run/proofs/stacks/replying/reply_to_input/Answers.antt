@@ -1,6 +1,6 @@
 use Rattle.std.proofs.Common.{◌≡◌, ◌≤◌, Ok, length, arith}
 use Rattle.bz_stacks.specs.Spelling.{stacks_in}
-use Rattle.bz_symq.specs.InputText.{greatest_input}
+use Rattle.bz_requests.specs.InputText.{greatest_input}
 use Rattle.bz_run.proofs.StackCountLemmas.{few_stacks}
 use Rattle.bz_run.proofs.stacks.replying.reply_to_input.Goals as goal
 

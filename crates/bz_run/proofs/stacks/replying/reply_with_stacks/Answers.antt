@@ -1,8 +1,8 @@
 use Rattle.std.proofs.Common.{◌≤◌, length, refl, inl, inr, arith}
-use Rattle.bz_symq.specs.InputText.{greatest_input}
+use Rattle.bz_requests.specs.InputText.{greatest_input}
 use Rattle.bz_stacks.proofs.SpellingLemmas.{stack_agrees}
 use Rattle.bz_stacks.specs.Spelling.{IsStack, stack_in}
-use Rattle.bz_symq.proofs.InputTextLemmas.{err_from_bad, over_at_end}
+use Rattle.bz_requests.proofs.InputTextLemmas.{err_from_bad, over_at_end}
 use Rattle.bz_symq.proofs.ReplyLemmas.{given_always}
 use Rattle.bz_symq.proofs.UnreadLemmas.{unread_counts, unread_undone, unread_whole}
 use Rattle.bz_run.proofs.StackReplyLemmas.{reply_from_input, reply_from_unread}

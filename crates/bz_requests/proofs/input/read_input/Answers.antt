@@ -1,7 +1,7 @@
 use Rattle.std.proofs.Common.{◌≡◌, ◌+◌, length, arith, vec_len}
-use Rattle.bz_symq.specs.InputText.{greatest_input}
-use Rattle.bz_symq.proofs.InputTextLemmas.{left_past, read_whole, moves_within}
-use Rattle.bz_symq.proofs.input.read_input.Goals as goal
+use Rattle.bz_requests.specs.InputText.{greatest_input}
+use Rattle.bz_requests.proofs.InputTextLemmas.{left_past, read_whole, moves_within}
+use Rattle.bz_requests.proofs.input.read_input.Goals as goal
 
 -- one byte past the greatest length was read
 pub returns-clause-past : goal.returns-clause-past

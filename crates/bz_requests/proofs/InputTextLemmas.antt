@@ -9,7 +9,7 @@ use Rattle.bz_requests.specs.Lines.{ReadsAsSpelled, items_in}
 use Rattle.bz_requests.proofs.AddressLemmas.{address_agrees}
 use Rattle.bz_requests.proofs.LineGrammarLemmas as lines
 use Rattle.bz_requests.proofs.LineGrammarLemmas.{items_found, items_again}
-use Rattle.bz_symq.specs.InputText.{AsksFor, IsBadInput, Moves, MovesAtMost, greatest_input, left_over, room_after}
+use Rattle.bz_requests.specs.InputText.{AsksFor, IsBadInput, Moves, MovesAtMost, greatest_input, left_over, room_after}
 
 -- what lies past a front is what follows it
 drop_front : (front rest text : List ℕ) (n : ℕ) → text ≡ front ++ rest → length front ≡ n → rest ≡ drop n text

@@ -4,10 +4,10 @@ ghost use Rattle.std.specs.Prelude.{◌≡◌, ◌+◌, ◌<◌, ◌≤◌, ◌+
 ghost use Rattle.bz_files.specs.Count.{CountsFaults};
 ghost use Rattle.bz_files.specs.World.{Told};
 ghost use Rattle.bz_requests.specs.Addresses.{addresses_in};
-ghost use Rattle.bz_symq.specs.InputText.{greatest_input, left_over, room_after, Moves, MovesAtMost};
+ghost use Rattle.bz_requests.specs.InputText.{greatest_input, left_over, room_after, Moves, MovesAtMost};
 
+use crate::lines::{BadInput, read_lines};
 use bz_files::{TextError, TextIn};
-use bz_requests::{BadInput, read_lines};
 use std::alloc::Global;
 
 /// The greatest length of an input, in bytes.

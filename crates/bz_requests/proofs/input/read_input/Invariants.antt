@@ -1,6 +1,6 @@
 use Rattle.std.proofs.Common.{◌≡◌, ◌+◌, ◌-◌, ◌≤◌, vec_len}
-use Rattle.bz_symq.specs.InputText.{greatest_input, Moves}
-use Rattle.bz_symq.proofs.input.read_input.Given as goal
+use Rattle.bz_requests.specs.InputText.{greatest_input, Moves}
+use Rattle.bz_requests.proofs.input.read_input.Given as goal
 
 -- what was read and what is left are the whole input, and no read failed
 abbrev pub invariant-loop-input : goal.invariant-loop-input
