@@ -22,7 +22,7 @@ use Rattle.bz_breakpad_lines.specs.Written.{RecordFits}
 use Rattle.bz_breakpad_lines.proofs.GrammarLaws.{accepted_found}
 use Rattle.bz_breakpad_lines.proofs.PrintableLaws.{accepted_printable}
 use Rattle.bz_breakpad_lines.proofs.Turns.{bind_some, map_some}
-use Rattle.bz_convert.specs.Members.{In}
+use Rattle.bz_gsym_layout.specs.Members.{In}
 use Rattle.bz_convert.specs.Plan.{located, source_by}
 use Rattle.bz_gsym_layout.specs.Plan.{Source}
 use Rattle.bz_gsym_layout.proofs.MemberLemmas.{all_append, member_of}

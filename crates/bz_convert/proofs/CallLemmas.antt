@@ -8,7 +8,7 @@ use Rattle.bz_base.specs.Span.{inside, last_address}
 use Rattle.bz_breakpad_function.specs.Locations.{calls_around}
 use Rattle.bz_breakpad_lines.specs.Table.{Inlinee, Function}
 use Rattle.bz_search.proofs.SortingLaws.{sorted_table}
-use Rattle.bz_convert.specs.Members.{In}
+use Rattle.bz_gsym_layout.specs.Members.{In}
 use Rattle.bz_convert.specs.Fault.{is_over, is_within}
 use Rattle.bz_convert.specs.Plan.{distinct_calls, has_size, is_checked, same_call, sized_calls}
 use Rattle.bz_gsym_layout.specs.Nesting.{calls_in, nested}

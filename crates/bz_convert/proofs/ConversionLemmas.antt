@@ -10,7 +10,7 @@ use Rattle.bz_breakpad_function.specs.Locations.{line_at}
 use Rattle.bz_breakpad_lines.specs.Table.{Inlinee, Function, Table}
 use Rattle.bz_breakpad_lines.proofs.Turns.{map_some}
 use Rattle.bz_search.proofs.SortingLaws.{sorted_table}
-use Rattle.bz_convert.specs.Members.{In}
+use Rattle.bz_gsym_layout.specs.Members.{In}
 use Rattle.bz_convert.specs.Fault.{fault_in}
 use Rattle.bz_convert.specs.Plan.{called, calls_beside, code_of, is_checked, plan, same_line, sized_calls}
 use Rattle.bz_convert.specs.Rows.{rows_from}
@@ -21,8 +21,8 @@ use Rattle.bz_gsym_layout.specs.Plan.{Code}
 use Rattle.bz_convert.proofs.BoundsLemmas.{AreBounded}
 use Rattle.bz_convert.proofs.FaultLemmas.{all_clean}
 use Rattle.bz_convert.proofs.LayableLemmas.{layable}
-use Rattle.bz_gsym_layout.proofs.MemberLemmas.{all_members}
-use Rattle.bz_convert.proofs.MemberLemmas.{from_table, map_in}
+use Rattle.bz_gsym_layout.proofs.MemberLemmas.{all_members, map_in}
+use Rattle.bz_convert.proofs.MemberLemmas.{from_table}
 
 module _ (table : Table) (none : fault_in table ≡ None) (good : AreBounded table) where
   in_table : (f : Function) → In (ordered_functions table.functions) f → In table.functions f

@@ -9,7 +9,8 @@ use Rattle.bz_base.specs.Chain.{around, chain, chain_from, fits, inner, inner_of
 use Rattle.bz_search.proofs.InnerLemmas.{Finds, inner_finds}
 use Rattle.bz_breakpad_lines.specs.Table.{Inlinee}
 use Rattle.bz_breakpad_function.specs.Locations.{calls_around}
-use Rattle.bz_convert.specs.Members.{In}
+use Rattle.bz_gsym_layout.specs.Members.{In}
+use Rattle.bz_gsym_layout.proofs.MemberLemmas.{any_in}
 use Rattle.bz_convert.specs.Plan.{distinct_calls, same_call}
 
 pub same_call_is : (a b : Inlinee) → same_call a b ≡ true → a ≡ b
@@ -49,14 +50,6 @@ any_some {X} test (y ∷ xs) is = by (test y) refl is (any_some test xs) where
 -- a call that is said by another of a list is one of it
 again_in : (i : Inlinee) (calls : List Inlinee) → list_any (same_call i) calls ≡ true → In calls i
 again_in i calls is = let found = any_some (same_call i) calls is in subst (In calls) (sym (same_call_is i found.0 found.2)) found.1
-
-pub any_in : {X : Type 0} (test : X → Bool) (calls : List X) (x : X) → In calls x → test x ≡ true → list_any test calls ≡ true
-any_in test [] x (i, there) passes = absurd (none-some x there)
-any_in test (y ∷ calls) x (zero, there) passes = rw (ap test (same_Some y x there) ∙ passes) refl
-any_in test (y ∷ calls) x (suc i, there) passes = by (test y) (any_in test calls x (i, there) passes) where
-  by : (b : Bool) → list_any test calls ≡ true → (b || list_any test calls) ≡ true
-  by true more = refl
-  by false more = more
 
 -- what is kept is of the list
 pub from_distinct : (calls : List Inlinee) (x : Inlinee) → In (distinct_calls calls) x → In calls x

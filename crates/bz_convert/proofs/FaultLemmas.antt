@@ -8,7 +8,7 @@ use Rattle.bz_breakpad_lines.specs.Names.{name_for}
 use Rattle.bz_breakpad_function.specs.InOrder.{calls_in_order, lines_in_order, ordered_functions}
 use Rattle.bz_breakpad_function.specs.Locations.{line_at}
 use Rattle.bz_breakpad_lines.specs.Table.{SourceLine, Inlinee, Function, Table}
-use Rattle.bz_convert.specs.Members.{In}
+use Rattle.bz_gsym_layout.specs.Members.{In}
 use Rattle.bz_convert.specs.Fault.{checked_fault, equal_starts, fault_of, first_fault, has_zero, lies_inside, line_gap, no_call_file, no_line_file, no_origin, not_nested, only_if, overlap, overlaps, zero_in, zero_size, ◌or◌}
 use Rattle.bz_gsym_layout.specs.Numbering.{texts_of}
 use Rattle.bz_convert.specs.Plan.{code_of, has_size, is_checked, located}

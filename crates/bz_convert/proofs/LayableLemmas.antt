@@ -10,7 +10,7 @@ use Rattle.bz_breakpad_lines.specs.Names.{name_for}
 use Rattle.bz_breakpad_function.specs.Locations.{line_at}
 use Rattle.bz_breakpad_lines.specs.Table.{SourceLine, Inlinee, Function, Table}
 use Rattle.bz_convert.specs.Fault.{has_zero}
-use Rattle.bz_convert.specs.Members.{In}
+use Rattle.bz_gsym_layout.specs.Members.{In}
 use Rattle.bz_gsym_layout.specs.Nesting.{Forest, map_forest, nested}
 use Rattle.bz_gsym_layout.specs.Nesting.Forest.{NoCalls, Call}
 use Rattle.bz_gsym_layout.specs.Numbering.{call_texts, calls_of, row_texts, source_texts, texts_of}
@@ -22,8 +22,8 @@ use Rattle.bz_convert.proofs.BoundsLemmas.{AreBounded, IsBounded}
 use Rattle.bz_convert.proofs.CallLemmas.{is_table, lies_within}
 use Rattle.bz_convert.proofs.DistinctLemmas.{from_distinct}
 use Rattle.bz_convert.proofs.FaultLemmas.{IsClean}
-use Rattle.bz_gsym_layout.proofs.MemberLemmas.{all_append}
-use Rattle.bz_convert.proofs.MemberLemmas.{filter_from, from_table}
+use Rattle.bz_gsym_layout.proofs.MemberLemmas.{all_append, filter_from}
+use Rattle.bz_convert.proofs.MemberLemmas.{from_table}
 use Rattle.bz_convert.proofs.PlanLemmas.{covering_among}
 
 empty_utf8 : IsUtf8 []

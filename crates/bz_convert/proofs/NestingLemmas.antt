@@ -8,7 +8,7 @@ use Rattle.std.proofs.lemmas.Option.{none-some, same_Some}
 use Rattle.bz_base.specs.Chain.{IsChainTo, around, chain, chain_from, inner}
 use Rattle.bz_base.specs.Span.{inside}
 use Rattle.bz_search.proofs.InnerLemmas.{inner_is}
-use Rattle.bz_convert.specs.Members.{In}
+use Rattle.bz_gsym_layout.specs.Members.{In}
 use Rattle.bz_gsym_layout.specs.Nesting.{nested, calls_in}
 
 module _ {X : Type 0} (depth start size : X → ℕ) (addr : ℕ) where

@@ -12,12 +12,13 @@ use Rattle.bz_breakpad_function.specs.Lent.{inlinee_seen}
 use Rattle.bz_breakpad_function.specs.declared.types.Inlinee.{Inlinee as GivenInlinee}
 use Rattle.bz_breakpad_lines.specs.Table.{Inlinee, Function}
 use Rattle.bz_search.proofs.SortingLaws.{sorted_table}
-use Rattle.bz_convert.specs.Members.{In}
+use Rattle.bz_gsym_layout.specs.Members.{In}
 use Rattle.bz_convert.specs.Fault.{is_over, overlap, overlaps}
 use Rattle.bz_convert.specs.Plan.{same_call}
 use Rattle.bz_convert.specs.Reach.{AreByDepth}
 use Rattle.bz_convert.specs.declared.error.ConvertError.TheVariants.{Overlap}
-use Rattle.bz_convert.proofs.DistinctLemmas.{any_in, any_some, same_call_is, same_itself}
+use Rattle.bz_convert.proofs.DistinctLemmas.{any_some, same_call_is, same_itself}
+use Rattle.bz_gsym_layout.proofs.MemberLemmas.{any_in}
 use Rattle.bz_convert.proofs.FaultLemmas.{find_none}
 use Rattle.bz_convert.proofs.MemberLemmas.{from_table, to_table}
 

@@ -21,7 +21,7 @@ use Rattle.bz_breakpad_function.specs.InOrder.{ordered_functions}
 use Rattle.bz_breakpad_function.specs.Locations.{by_line, by_seen, calls_around, line_at, location_at, seen_from, seen_outside, site_in}
 use Rattle.bz_breakpad_lines.specs.Table.{SourceLine, Inlinee, Function, PublicSymbol, Table}
 use Rattle.bz_convert.specs.Alike.{AnswersAlike, IsAlike, KnowAlike, joined, joined_call}
-use Rattle.bz_convert.specs.Members.{In}
+use Rattle.bz_gsym_layout.specs.Members.{In}
 use Rattle.bz_convert.specs.Fault.{fault_in}
 use Rattle.bz_gsym_layout.specs.Nesting.{Forest, calls_in, map_forest, nested}
 use Rattle.bz_gsym_layout.specs.Nesting.Forest.{NoCalls, Call}
@@ -34,8 +34,8 @@ use Rattle.bz_convert.proofs.BoundsLemmas.{AreBounded}
 use Rattle.bz_convert.proofs.CallLemmas.{is_table, tree_around}
 use Rattle.bz_convert.proofs.FaultLemmas.{IsClean, all_clean, functions_differ}
 use Rattle.bz_convert.proofs.DistinctLemmas.{from_distinct}
-use Rattle.bz_gsym_layout.proofs.MemberLemmas.{all_append, all_members}
-use Rattle.bz_convert.proofs.MemberLemmas.{filter_from, from_table, to_table}
+use Rattle.bz_gsym_layout.proofs.MemberLemmas.{all_append, all_members, filter_from}
+use Rattle.bz_convert.proofs.MemberLemmas.{from_table, to_table}
 use Rattle.bz_search.proofs.SortingLaws.{sorted_table}
 use Rattle.bz_convert.proofs.RowLemmas.{row_answers}
 use Rattle.bz_convert.proofs.StartLemmas.{candidate_alike, candidate_in_table}

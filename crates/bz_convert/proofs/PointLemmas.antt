@@ -8,7 +8,7 @@ use Rattle.std.proofs.lemmas.Option.{none-some, same_Some}
 use Rattle.bz_base.specs.Nearest.{IsCandidate, IsNearestCovering, nearest_covering}
 use Rattle.bz_base.specs.Span.{covers}
 use Rattle.bz_search.proofs.NearestLemmas.{nearest_covering_is, nearest_covering_only}
-use Rattle.bz_convert.specs.Members.{In}
+use Rattle.bz_gsym_layout.specs.Members.{In}
 use Rattle.bz_convert.specs.Fault.{◌or◌}
 use Rattle.bz_convert.specs.Points.{gap_of}
 use Rattle.bz_convert.specs.Rows.{gap_from, row_by, rows_from}

@@ -16,15 +16,15 @@ use Rattle.bz_breakpad_lines.specs.Told.{line_seen}
 use Rattle.bz_breakpad_lines.specs.declared.record.SourceLine.{SourceLine as KeptLine}
 use Rattle.bz_breakpad_lines.proofs.Turns.{map_some}
 use Rattle.bz_search.proofs.SortingLaws.{sorted_table}
-use Rattle.bz_convert.specs.Members.{In}
+use Rattle.bz_gsym_layout.specs.Members.{In}
 use Rattle.bz_convert.specs.Plan.{is_checked, same_line}
 use Rattle.bz_convert.specs.Fault.{◌or◌}
 use Rattle.bz_convert.specs.Points.{ArePoints, gap_of, point_within, row_seen}
 use Rattle.bz_convert.specs.Rows.{gap_from, row_by, rows_from}
 use Rattle.bz_convert.specs.declared.rows.LineRow.{LineRow}
 use Rattle.bz_convert.specs.declared.rows.Point.{Point}
-use Rattle.bz_gsym_layout.proofs.MemberLemmas.{in_append, in_flat, in_left, in_right}
-use Rattle.bz_convert.proofs.MemberLemmas.{from_table, map_in, to_table}
+use Rattle.bz_gsym_layout.proofs.MemberLemmas.{in_append, in_flat, in_left, in_right, map_in}
+use Rattle.bz_convert.proofs.MemberLemmas.{from_table, to_table}
 use Rattle.bz_convert.proofs.PointLemmas.{ArePointsOf, IsNoPoint, gap_at_points, nearest_steady, point_gap, point_rows, rows_at_points}
 
 abbrev pub addrs_of : List Point → List ℕ

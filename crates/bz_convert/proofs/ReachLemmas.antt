@@ -14,11 +14,12 @@ use Rattle.bz_breakpad_function.specs.InOrder.{calls_in_order}
 use Rattle.bz_breakpad_function.specs.Lent.{inlinee_seen}
 use Rattle.bz_breakpad_function.specs.declared.types.Inlinee.{Inlinee as GivenInlinee}
 use Rattle.bz_breakpad_lines.specs.Table.{Function, Inlinee}
-use Rattle.bz_convert.specs.Members.{In}
+use Rattle.bz_gsym_layout.specs.Members.{In}
 use Rattle.bz_convert.specs.Fault.{is_within, lies_inside}
 use Rattle.bz_convert.specs.Reach.{AreByDepth, AreReaches, IsReach, later_end, reach_after}
 use Rattle.bz_convert.specs.declared.calls.Reach.{Reach}
-use Rattle.bz_convert.proofs.DistinctLemmas.{any_in, any_some}
+use Rattle.bz_convert.proofs.DistinctLemmas.{any_some}
+use Rattle.bz_gsym_layout.proofs.MemberLemmas.{any_in}
 use Rattle.bz_convert.proofs.OverlapLemmas.{any_in_order, in_order}
 
 abbrev depth_of : Reach → ℕ

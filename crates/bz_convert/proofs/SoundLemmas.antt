@@ -9,9 +9,9 @@ use Rattle.bz_base.specs.Nearest.{has_span, IsTable}
 use Rattle.bz_base.specs.Span.{inside, last_address}
 use Rattle.bz_search.proofs.InnerLemmas.{inner_again}
 use Rattle.bz_gsym_layout.specs.Nesting.{nested, calls_in}
-use Rattle.bz_convert.specs.Members.{In}
-use Rattle.bz_gsym_layout.proofs.MemberLemmas.{filter_to}
-use Rattle.bz_convert.proofs.MemberLemmas.{filter_from, pair_from, to_table, from_table, two_alike}
+use Rattle.bz_gsym_layout.specs.Members.{In}
+use Rattle.bz_gsym_layout.proofs.MemberLemmas.{filter_to, filter_from, pair_from}
+use Rattle.bz_convert.proofs.MemberLemmas.{to_table, from_table, two_alike}
 use Rattle.bz_convert.proofs.NestingLemmas.{AreNested, AreFound, found_is, has_parts, calls_are, calls_are_the_chain}
 
 module _ {X : Type 0} (depth start size : X → ℕ) where

@@ -6,7 +6,7 @@ use Rattle.std.proofs.lemmas.Bool.Decides.{nat_tests}
 use Rattle.std.proofs.lemmas.Option.{same_Some}
 use Rattle.bz_base.specs.Nearest.{IsTable, candidate, comes_first, first_of}
 use Rattle.bz_search.proofs.NearestLemmas.{candidate_is, candidate_again, none_below, none_from_above}
-use Rattle.bz_convert.specs.Members.{In}
+use Rattle.bz_gsym_layout.specs.Members.{In}
 use Rattle.bz_convert.proofs.MemberLemmas.{to_table, from_table}
 
 module _ {X : Type 0} (start : X → ℕ) where

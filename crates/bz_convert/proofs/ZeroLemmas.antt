@@ -8,7 +8,7 @@ use Rattle.bz_base.specs.Span.{inside, last_address}
 use Rattle.bz_breakpad_function.specs.InOrder.{calls_in_order}
 use Rattle.bz_breakpad_lines.specs.Table.{SourceLine, Inlinee, Function, Table}
 use Rattle.bz_search.proofs.SortingLaws.{sorted_table}
-use Rattle.bz_convert.specs.Members.{In}
+use Rattle.bz_gsym_layout.specs.Members.{In}
 use Rattle.bz_convert.specs.Fault.{has_zero}
 use Rattle.bz_convert.specs.Ids.{call_has_zero, row_has_zero, sized_with, source_has_zero}
 use Rattle.bz_convert.specs.Plan.{called, calls_beside, changes, code_of, distinct_calls, has_size, is_checked, laid_calls, line_of, row_in, sized_calls}
@@ -17,10 +17,10 @@ use Rattle.bz_gsym_layout.specs.Nesting.Forest.{NoCalls, Call}
 use Rattle.bz_gsym_layout.specs.Numbering.{call_texts, calls_of, row_texts, texts_of}
 use Rattle.bz_gsym_layout.specs.Plan.{Called, Line, Source}
 use Rattle.bz_convert.proofs.CallLemmas.{are_sound, is_table}
-use Rattle.bz_convert.proofs.DistinctLemmas.{any_in, any_some, from_distinct, to_distinct}
+use Rattle.bz_convert.proofs.DistinctLemmas.{any_some, from_distinct, to_distinct}
+use Rattle.bz_gsym_layout.proofs.MemberLemmas.{any_in, filter_to, in_append, in_left, in_right, filter_from}
 use Rattle.bz_convert.proofs.FaultLemmas.{IsNested}
-use Rattle.bz_gsym_layout.proofs.MemberLemmas.{filter_to, in_append, in_left, in_right}
-use Rattle.bz_convert.proofs.MemberLemmas.{filter_from, from_table, to_table}
+use Rattle.bz_convert.proofs.MemberLemmas.{from_table, to_table}
 use Rattle.bz_convert.proofs.SoundLemmas.{calls_among, listed}
 
 -- Tests of lists.

@@ -1,11 +1,15 @@
 pub mod Alike
 pub mod Apart
+pub mod Converted
 pub mod ErrorNames
 pub mod Fault
+pub mod FilePlan
 pub mod Ids
-pub mod Members
+pub mod Laid
+pub mod Numbered
 pub mod Plan
 pub mod Points
 pub mod Reach
 pub mod Rows
 pub mod RowsAndCalls
+pub mod Sized

@@ -2,7 +2,7 @@
 use Rattle.std.specs.Prelude.{◌≡◌, ℕ, ◌+◌, ◌<◌, ◌≤◌, nat_le, nat_lt, ◌&&◌, List, [], ◌∷◌, Option, Some, None, is_none, is_some, slice_get, if◌then◌else◌}
 use Rattle.bz_breakpad_lines.specs.Table.{Function, SourceLine}
 use Rattle.bz_breakpad_lines.specs.Told.{line_seen}
-use Rattle.bz_convert.specs.Members.{In}
+use Rattle.bz_gsym_layout.specs.Members.{In}
 use Rattle.bz_convert.specs.declared.rows.LineRow.{LineRow}
 use Rattle.bz_convert.specs.declared.rows.Point.{Point}
 

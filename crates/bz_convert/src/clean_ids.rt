@@ -15,7 +15,7 @@ use std::marker::Model;
 
 /// A file, of whose ids some are known to name texts without a zero byte. Contracts see the file.
 #[derive(Drop)]
-pub struct CleanIds<'a> {
+pub(crate) struct CleanIds<'a> {
     file: &'a SymbolFile,
     /// Whether this is known of each id of FILE records from 0 on.
     files: Vec<bool>,
@@ -36,7 +36,7 @@ impl<'a> Model for CleanIds<'a> {
 
 impl<'a> CleanIds<'a> {
     /// The ids of a file, after a look at those from 0 on, as many as the file has.
-    pub fn new(alloc: Global, file: &'a SymbolFile) -> Result<CleanIds<'a>, AllocError>
+    pub(crate) fn new(alloc: Global, file: &'a SymbolFile) -> Result<CleanIds<'a>, AllocError>
         ensures { IfOk result (λ ids. ids ≡ file.now) }
     {
         let files = clean_files(alloc, file)?;

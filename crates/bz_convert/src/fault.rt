@@ -18,7 +18,7 @@ use std::alloc::Global;
 
 /// The rows and inlined calls of a function without a fault. One whose end passes 64 bits has neither.
 #[derive(Drop)]
-pub struct RowsAndCalls {
+pub(crate) struct RowsAndCalls {
     /// The rows, in the order of their addresses.
     pub rows: Vec<LineRow>,
     /// The inlined calls, in the order of depth and start.
@@ -28,7 +28,7 @@ pub struct RowsAndCalls {
 /// The rows and inlined calls of a function of the file that the ids are of. `before` is where the
 /// function before it starts, by start and size, if there is one. OutOfMemory: memory ran out. Any
 /// other refusal is the first fault of the function.
-pub fn rows_and_calls(
+pub(crate) fn rows_and_calls(
     alloc: Global,
     ids: &CleanIds<'_>,
     before: Option<u64>,

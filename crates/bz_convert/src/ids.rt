@@ -20,10 +20,10 @@ use bz_base::split_source;
 use bz_breakpad::{Function, Inlinee, SourceLine, SymbolFile};
 
 /// A source file, as its directory and its name.
-pub type Source<'a> = (Option<&'a str>, &'a str);
+pub(crate) type Source<'a> = (Option<&'a str>, &'a str);
 
 /// The source file of an id: none if no FILE record has the id, or its name has no component.
-pub fn located(file: &SymbolFile, id: u32) -> Option<Source<'_>>
+pub(crate) fn located(file: &SymbolFile, id: u32) -> Option<Source<'_>>
     ensures { (table : Table) → table_in file.now ≡ Some table → option_map lent_source result ≡ located table id }
 {
     split_source(file.file(id)?)

@@ -1,16 +1,15 @@
-//! Why a Breakpad file isn't converted to GSYM, and the rows and inlined calls of its functions.
+//! The conversion: the plan of a Breakpad file without a fault, laid out as a GSYM file. Also why a
+//! file isn't converted, and the rows and inlined calls of its functions.
 #![tactic(auto)]
 
 mod calls;
 mod clean_ids;
+mod conversion;
 mod error;
 mod fault;
 mod ids;
 pub mod laws;
 mod rows;
 
-pub use clean_ids::CleanIds;
+pub use conversion::convert;
 pub use error::ConvertError;
-pub use fault::{RowsAndCalls, rows_and_calls};
-pub use ids::{Source, located};
-pub use rows::LineRow;

@@ -36,7 +36,7 @@ impl Spanned for Point {
 
 /// A row of a function: the line record that answers from an address on.
 #[derive(Clone, Copy)]
-pub struct LineRow {
+pub(crate) struct LineRow {
     /// The address, relative to the module's base.
     pub addr: u64,
     /// The record.

@@ -11,7 +11,7 @@ use Rattle.bz_base.specs.Little.{number_at}
 use Rattle.bz_gsym_layout.specs.Layout.{Tables, code_bytes, data_bytes, data_places, inline_entry, line_entry, text_place, word, zeros}
 use Rattle.bz_gsym_layout.specs.Plan.{Code}
 use Rattle.bz_gsym_layout.proofs.DecodeLemmas.{info_of}
-use Rattle.bz_gsym_layout.proofs.MemberLemmas.{In}
+use Rattle.bz_gsym_layout.specs.Members.{In}
 use Rattle.bz_gsym_layout.proofs.WordLemmas.{number_there}
 
 pub length_zeros : (count : ℕ) → length (zeros count) ≡ count

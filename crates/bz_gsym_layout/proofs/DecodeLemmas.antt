@@ -29,7 +29,8 @@ use Rattle.bz_gsym_layout.specs.Planned as answers
 use Rattle.bz_gsym_layout.specs.Rows.{row_at}
 use Rattle.bz_gsym_layout.proofs.EntryLemmas.{entry_front, entries_end}
 use Rattle.bz_gsym_layout.proofs.LineLemmas.{RowsFit, line_read, state_of, zero_header}
-use Rattle.bz_gsym_layout.proofs.MemberLemmas.{In, all_append}
+use Rattle.bz_gsym_layout.specs.Members.{In}
+use Rattle.bz_gsym_layout.proofs.MemberLemmas.{all_append}
 use Rattle.bz_gsym_layout.proofs.CandidateLemmas.{candidate_seen}
 use Rattle.bz_gsym_layout.proofs.TreeLemmas.{RootFits, frame, root_frame, tree_read}
 

@@ -10,7 +10,8 @@ use Rattle.bz_gsym_layout.specs.Layout.{Tables, calls_bytes, child_flag, node_by
 use Rattle.bz_gsym_layout.specs.Nesting.{Forest, calls_in, map_forest, nested}
 use Rattle.bz_gsym_layout.specs.Nesting.Forest.{NoCalls, Call}
 use Rattle.bz_gsym_layout.specs.Plan.{Called}
-use Rattle.bz_gsym_layout.proofs.MemberLemmas.{In, in_append}
+use Rattle.bz_gsym_layout.specs.Members.{In}
+use Rattle.bz_gsym_layout.proofs.MemberLemmas.{in_append}
 
 module _ {X : Type 0} (t : Tables) (view : X → Called) (depth start size : X → ℕ) (addr : ℕ) where
   abbrev bytes_of : ℕ → Forest X → List ℕ

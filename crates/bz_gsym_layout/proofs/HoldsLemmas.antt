@@ -27,7 +27,8 @@ use Rattle.bz_gsym_layout.proofs.DataLemmas.{LiesAt, code_below, codes_are, info
 use Rattle.bz_gsym_layout.proofs.DecodeLemmas.{AllCalls, CallReads, CodeReads, Holds, LineReads, RowReads, ShortLines, ShortTree, plain_is_planned}
 use Rattle.bz_gsym_layout.proofs.LayoutLemmas.{before_data, data_at, file_of, files_read, from_data, head_read, length_is, places_read, starts_read, strings_read, text_fits, to_data}
 use Rattle.bz_gsym_layout.proofs.LineLemmas.{RowsFit, zero_header}
-use Rattle.bz_gsym_layout.proofs.MemberLemmas.{In, all_members, in_flat, in_left, in_right, member_of}
+use Rattle.bz_gsym_layout.specs.Members.{In}
+use Rattle.bz_gsym_layout.proofs.MemberLemmas.{all_members, in_flat, in_left, in_right, member_of}
 use Rattle.bz_gsym_layout.proofs.NumberingLemmas.{at_index, in_firsts, some_place, source_is_same, source_same, text_is_same, text_read, text_same}
 use Rattle.bz_gsym_layout.proofs.TreeLemmas.{CallsFit, tree_of, tree_written}
 

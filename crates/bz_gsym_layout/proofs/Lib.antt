@@ -12,6 +12,8 @@ pub mod IndexedLemmas
 pub mod LayoutLemmas
 pub mod LebLemmas
 pub mod LineLemmas
+pub mod ListedLemmas
+pub mod ListingLemmas
 pub mod LoopLemmas
 pub mod MemberLemmas
 pub mod NumberingLemmas

@@ -13,7 +13,8 @@ use Rattle.bz_gsym.proofs.TextLaws.{string_spelled}
 use Rattle.bz_gsym_layout.specs.Layout.{Tables, string_bytes, text_place}
 use Rattle.bz_gsym_layout.specs.Numbering.{firsts, index_of, place_from, same_source, stored}
 use Rattle.bz_gsym_layout.specs.Plan.{Source}
-use Rattle.bz_gsym_layout.proofs.MemberLemmas.{In, filter_to}
+use Rattle.bz_gsym_layout.specs.Members.{In}
+use Rattle.bz_gsym_layout.proofs.MemberLemmas.{filter_to}
 
 pub text_is_same : (a : List ℕ) → bytes_eq a a ≡ true
 text_is_same a = (bytes_eq-Decides a a).1 refl

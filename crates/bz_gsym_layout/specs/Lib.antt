@@ -4,6 +4,9 @@ pub mod InOrder
 pub mod Layable
 pub mod Layout
 pub mod Leb
+pub mod Listed
+pub mod Listing
+pub mod Members
 pub mod Nesting
 pub mod Numbering
 pub mod Pass

@@ -10,9 +10,13 @@ mod layout;
 mod leb;
 mod plan;
 mod rows;
+mod sources;
 mod tables;
+mod texts;
 mod words;
 
 pub use error::LayoutError;
 pub use layout::write;
 pub use plan::{Function, Node, Plan, Row, SourceFile};
+pub use sources::Sources;
+pub use texts::Texts;

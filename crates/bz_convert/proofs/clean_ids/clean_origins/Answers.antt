@@ -1,7 +1,7 @@
 use Rattle.std.proofs.Common.{arith, length, ap, subst, sym}
 use Rattle.std.proofs.lemmas.List.{length_push}
 use Rattle.bz_convert.specs.Ids.{IsCleanOrigin}
-use Rattle.bz_convert.proofs.MemberLemmas.{flags_more}
+use Rattle.bz_gsym_layout.proofs.MemberLemmas.{flags_more}
 use Rattle.bz_convert.proofs.clean_ids.clean_origins.Goals as goal
 
 pub loop-id-preserved : goal.loop-id-preserved

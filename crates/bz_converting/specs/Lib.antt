@@ -1,6 +1,0 @@
-pub mod Converted
-pub mod FilePlan
-pub mod Laid
-pub mod Listed
-pub mod Numbered
-pub mod Sized
