@@ -21,18 +21,27 @@ fn keeps_its_kind(input: Input<u64>) -> bool {
         && input.into_inner() == 3
 }
 
+/// The first thing that isn't told so; nothing where all are.
+fn first_untold(alloc: Global) -> &'static str {
+    if !print_in_words(alloc) {
+        return "words";
+    }
+    if !keeps_its_kind(Input::VirtOffset(3)) {
+        return "an input";
+    }
+    if Reason::MissingComponent.as_bytes() != b"proc maps entry has no component\0".as_slice() {
+        return "bytes of a reason";
+    }
+    if Error::InvalidInput.kind() != ErrorKind::InvalidInput {
+        return "kind of an error";
+    }
+    ""
+}
+
 #[test]
 fn reasons_errors_and_inputs_tell_what_they_are(rt: HostRuntime) {
-    assert!(rt; print_in_words(rt.alloc()), "words");
-    assert!(rt; keeps_its_kind(Input::VirtOffset(3)), "an input");
-    assert!(rt;
-        Reason::MissingComponent.as_bytes() == b"proc maps entry has no component\0".as_slice(),
-        "bytes of a reason"
-    );
-    assert!(rt;
-        Error::InvalidInput.kind() == ErrorKind::InvalidInput,
-        "kind of an error"
-    );
+    let untold = first_untold(rt.alloc());
+    assert!(rt; untold.is_empty(), "{untold}");
 }
 
 /// A site, whose texts are borrowed.
@@ -65,10 +74,24 @@ fn symbol(alloc: Global) -> Result<Sym<'static>> {
     })
 }
 
+/// Whether there is a value, and it is equal to this one.
+fn is_equal<T: PartialEq + Drop>(value: Option<T>, expected: &T) -> bool {
+    match value {
+        Some(value) => value == *expected,
+        None => false,
+    }
+}
+
+/// Whether a copy is equal to its symbol, and its name is borrowed, or not.
+fn is_copy(copy: Sym<'_>, symbol: &Sym<'_>, lent: bool) -> bool {
+    let borrowed = matches!(copy.name, CowStr::Borrowed(_));
+    is_equal(Some(copy), symbol) && borrowed == lent
+}
+
 /// Whether a copy of a symbol is equal to it, and its name is borrowed, or not.
 fn is_cloned(alloc: Global, symbol: &Sym<'_>, lent: bool) -> bool {
     match symbol.try_clone(alloc) {
-        Ok(copy) => copy == *symbol && matches!(copy.name, CowStr::Borrowed(_)) == lent,
+        Ok(copy) => is_copy(copy, symbol, lent),
         Err(_) => false,
     }
 }
@@ -80,21 +103,15 @@ fn lends(answer: &Symbolized<'_>, expected: &Sym<'_>) -> bool {
     }
 }
 
-/// Whether a copy is made, and equal to what it is of.
-fn is_equal<T: PartialEq + Drop>(copy: Result<T>, original: &T) -> bool {
-    match copy {
-        Ok(copy) => copy == *original,
-        Err(_) => false,
-    }
-}
-
 /// Whether an answer lends the symbol, and then gives it.
 fn gives(answer: Symbolized<'_>, expected: &Sym<'_>) -> bool {
     let lent = lends(&answer, expected);
-    match answer.into_sym() {
-        Some(symbol) => symbol == *expected && lent,
-        None => false,
-    }
+    is_equal(answer.into_sym(), expected) && lent
+}
+
+/// Whether a copy of an answer is equal to it.
+fn answer_is_cloned(alloc: Global, answer: &Symbolized<'_>) -> bool {
+    is_equal(answer.try_clone(alloc).ok(), answer)
 }
 
 /// Whether an answer with a symbol is cloned, and gives one that is equal in every field.
@@ -122,79 +139,83 @@ fn owned_is_kept(alloc: Global, lent: &Sym<'_>) -> bool {
     }
 }
 
-/// Whether a symbol is cloned, as it was made and with texts of its own, and no field changes.
-fn is_cloned_and_given(alloc: Global) -> bool {
-    match symbol(alloc) {
-        Ok(lent) => is_cloned(alloc, &lent, true) && owned_is_kept(alloc, &lent),
-        Err(_) => false,
-    }
-}
-
-/// Whether a copy of a call is equal to it.
-fn call_is_cloned(alloc: Global, call: &InlinedFn<'_>) -> bool {
-    is_equal(call.try_clone(alloc), call)
-}
-
-/// Whether a copy of a site is equal to it.
-fn site_is_cloned(alloc: Global, site: &CodeInfo<'_>) -> bool {
-    is_equal(site.try_clone(alloc), site)
-}
-
-/// Whether a copy of an answer is equal to it.
-fn answer_is_cloned(alloc: Global, answer: &Symbolized<'_>) -> bool {
-    is_equal(answer.try_clone(alloc), answer)
-}
-
-/// Whether the call with texts of its own is equal to it.
-fn call_is_owned(alloc: Global) -> bool {
-    match CALL.into_owned(alloc) {
-        Ok(own) => own == CALL && matches!(own.name, CowStr::Owned(_)),
-        Err(_) => false,
-    }
-}
-
-/// Whether the site with texts of its own is equal to it.
-fn site_is_owned(alloc: Global) -> bool {
-    match SITE.into_owned(alloc) {
-        Ok(own) => own == SITE && matches!(own.file, CowStr::Owned(_)),
-        Err(_) => false,
-    }
-}
-
 /// Whether a call and a site are cloned, and an answer that is none.
-fn parts_are_cloned(alloc: Global) -> bool {
-    let call = call_is_cloned(alloc, &CALL);
-    let site = site_is_cloned(alloc, &SITE);
-    let answer = answer_is_cloned(alloc, &Symbolized::Unknown(Reason::Unmapped));
-    call && site && answer
+fn parts_are_cloned(alloc: Global, call: &InlinedFn<'_>, site: &CodeInfo<'_>) -> bool {
+    is_equal(call.try_clone(alloc).ok(), call)
+        && is_equal(site.try_clone(alloc).ok(), site)
+        && answer_is_cloned(alloc, &Symbolized::Unknown(Reason::Unmapped))
+}
+
+/// Whether a call has texts of its own, and is equal to the one that lent them.
+fn is_own_call(own: InlinedFn<'_>, lent: &InlinedFn<'_>) -> bool {
+    let owned = matches!(own.name, CowStr::Owned(_));
+    is_equal(Some(own), lent) && owned
+}
+
+/// Whether the call with texts of its own is equal to the one that lent them.
+fn call_is_owned(alloc: Global, lent: &InlinedFn<'_>) -> bool {
+    match CALL.into_owned(alloc) {
+        Ok(own) => is_own_call(own, lent),
+        Err(_) => false,
+    }
+}
+
+/// Whether a site has texts of its own, and is equal to the one that lent them.
+fn is_own_site(own: CodeInfo<'_>, lent: &CodeInfo<'_>) -> bool {
+    let owned = matches!(own.file, CowStr::Owned(_));
+    is_equal(Some(own), lent) && owned
+}
+
+/// Whether the site with texts of its own is equal to the one that lent them.
+fn site_is_owned(alloc: Global, lent: &CodeInfo<'_>) -> bool {
+    match SITE.into_owned(alloc) {
+        Ok(own) => is_own_site(own, lent),
+        Err(_) => false,
+    }
+}
+
+/// The first part of the symbol that isn't cloned or owned; nothing where all are.
+fn first_unkept(alloc: Global, symbol: &Sym<'_>) -> &'static str {
+    let (Some(call), Some(site)) = (symbol.inlined.first(), &symbol.code_info) else {
+        return "a symbol's parts";
+    };
+    if !is_cloned(alloc, symbol, true) || !owned_is_kept(alloc, symbol) {
+        return "a symbol";
+    }
+    if !parts_are_cloned(alloc, call, site) {
+        return "a call, a site and a reason";
+    }
+    if !call_is_owned(alloc, call) {
+        return "a call's own texts";
+    }
+    if !site_is_owned(alloc, site) {
+        return "a site's own texts";
+    }
+    ""
+}
+
+/// The same of the symbol above.
+fn first_unkept_of_symbol(alloc: Global) -> &'static str {
+    match symbol(alloc) {
+        Ok(symbol) => first_unkept(alloc, &symbol),
+        Err(_) => "memory",
+    }
 }
 
 #[test]
-fn answers_are_cloned_and_given_and_their_parts_cloned(rt: HostRuntime) {
-    assert!(rt; is_cloned_and_given(rt.alloc()), "a symbol");
-    assert!(rt; parts_are_cloned(rt.alloc()), "a call, a site and a reason");
-}
-
-#[test]
-fn calls_and_sites_are_owned(rt: HostRuntime) {
-    assert!(rt; call_is_owned(rt.alloc()), "a call");
-    assert!(rt; site_is_owned(rt.alloc()), "a site");
+fn answers_are_given_and_with_their_parts_cloned_and_owned(rt: HostRuntime) {
+    let unkept = first_unkept_of_symbol(rt.alloc());
+    assert!(rt; unkept.is_empty(), "{unkept}");
 }
 
 /// Whether an answer becomes an entry without a symbol, for this reason.
 fn is_entry(answer: Result<Symbolized<'static>>, reason: Reason) -> bool {
-    match in_batch(answer) {
-        Ok(Symbolized::Unknown(kept)) => kept == reason,
-        _ => false,
-    }
+    is_equal(in_batch(answer).ok(), &Symbolized::Unknown(reason))
 }
 
 /// Whether an error refuses the batch.
 fn refuses(error: Error) -> bool {
-    match in_batch(Err(error)) {
-        Ok(_) => false,
-        Err(refusal) => refusal == error,
-    }
+    in_batch(Err(error)).err() == Some(error)
 }
 
 /// Whether a batch keeps an answer and ignores a refused address. A failed read and want of memory

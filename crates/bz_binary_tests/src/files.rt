@@ -1,6 +1,7 @@
-//! Files in memory.
+//! Files in memory, and texts of Breakpad files, read.
 
 use bz_base::Error;
+use bz_breakpad::SymbolFile;
 use bz_files::MemFiles;
 use std::alloc::Global;
 
@@ -13,4 +14,9 @@ pub(crate) fn put(
 ) -> Result<(), Error> {
     files.put(alloc, path, Vec::from_slice(alloc, bytes)?)?;
     Ok(())
+}
+
+/// The Breakpad file of a text.
+pub(crate) fn file_of(alloc: Global, text: &[u8]) -> Result<SymbolFile, Error> {
+    SymbolFile::from_bytes(alloc, Vec::from_slice(alloc, text)?)
 }

@@ -192,8 +192,10 @@ const NO_LINE_ENDS: &[&[u8]] = &[
     b"FILE 1 a\n\x0cFILE 2 b\n",
 ];
 
-/// The texts, by what is wrong with them.
-static REFUSED: [(&str, &[&[u8]]); 7] = [
+/// Texts with the same thing wrong, and what that is.
+type Wrong = (&'static str, &'static [&'static [u8]]);
+
+static REFUSED: [Wrong; 7] = [
     ("lines", NO_LINES),
     ("numbers", NO_NUMBERS),
     ("fields", NO_FIELDS),
@@ -203,14 +205,20 @@ static REFUSED: [(&str, &[&[u8]]); 7] = [
     ("line ends and white space", NO_LINE_ENDS),
 ];
 
-#[test]
-fn refuses_texts_that_are_no_files(rt: HostRuntime) {
-    for (wrong, texts) in &REFUSED {
+/// What is wrong with the first text that isn't refused, and its row; nothing where all are refused.
+fn first_to_pass(alloc: Global, tables: &[Wrong]) -> (&'static str, usize) {
+    for (wrong, texts) in tables {
         for index in 0..texts.len() {
-            assert!(rt;
-                is_refused(rt.alloc(), texts[index]),
-                "{wrong}: row {index}"
-            );
+            if !is_refused(alloc, texts[index]) {
+                return (wrong, index);
+            }
         }
     }
+    ("", 0)
+}
+
+#[test]
+fn refuses_texts_that_are_no_files(rt: HostRuntime) {
+    let (wrong, row) = first_to_pass(rt.alloc(), &REFUSED);
+    assert!(rt; wrong.is_empty(), "{wrong}: row {row}");
 }

@@ -5,7 +5,7 @@ use crate::fact::Call;
 use crate::files::put;
 use crate::named::are_listed;
 use crate::walked::is_walk;
-use bz_base::{Error, FindSymOpts, Reason, ResolvedSym, Result, SrcLang, SymType, Symbolize};
+use bz_base::{Error, FindSymOpts, Reason, ResolvedSym, SrcLang, SymType, Symbolize};
 use bz_breakpad::{BreakpadResolver, FindAddrOpts, Inspect, SymInfo};
 use bz_files::MemFiles;
 use std::alloc::Global;
@@ -50,7 +50,7 @@ pub(crate) fn is_resolved(
     files: &mut MemFiles,
     text: &[u8],
     resolved: &Resolved,
-) -> Result<bool> {
+) -> Result<bool, Error> {
     put(alloc, files, "/p", text)?;
     let resolver = BreakpadResolver::open(alloc, files, "/p")?;
     Ok(shows(alloc, &resolver, resolved))
@@ -59,7 +59,7 @@ pub(crate) fn is_resolved(
 fn shows(alloc: Global, resolver: &BreakpadResolver, resolved: &Resolved) -> bool {
     match resolved {
         Resolved::Printed(text) => is_printed(alloc, resolver, text),
-        Resolved::At(addr, opts, found) => is_found(alloc, resolver, *addr, opts, found),
+        Resolved::At(addr, opts, found) => is_found(&resolver.find_sym(alloc, *addr, opts), found),
         Resolved::Named(name, infos) => {
             are_listed(
                 resolver.find_addr(alloc, name, &FindAddrOpts::default()),
@@ -77,17 +77,11 @@ fn is_printed(alloc: Global, resolver: &BreakpadResolver, expected: &str) -> boo
     }
 }
 
-fn is_found(
-    alloc: Global,
-    resolver: &BreakpadResolver,
-    addr: u64,
-    opts: &FindSymOpts,
-    expected: &Found,
-) -> bool {
-    match resolver.find_sym(alloc, addr, opts) {
-        Ok(Ok(symbol)) => is_symbol(&symbol, expected),
-        Ok(Err(reason)) => matches!(expected, Found::Unknown(expected) if *expected == reason),
-        Err(error) => matches!(expected, Found::Refused(expected) if *expected == error),
+fn is_found(found: &Result<Result<ResolvedSym<'_>, Reason>, Error>, expected: &Found) -> bool {
+    match found {
+        Ok(Ok(symbol)) => is_symbol(symbol, expected),
+        Ok(Err(reason)) => matches!(expected, Found::Unknown(expected) if expected == reason),
+        Err(error) => matches!(expected, Found::Refused(expected) if expected == error),
     }
 }
 

@@ -93,20 +93,21 @@ static RESOLVED: [Row; 16] = [
 ];
 
 /// How many rows are shown by the resolvers of their texts, before one that isn't.
-fn count_until_failure(alloc: Global, files: &mut MemFiles) -> usize {
-    for index in 0..RESOLVED.len() {
-        let (text, resolved) = &RESOLVED[index];
+fn count_until_failure(alloc: Global, files: &mut MemFiles, rows: &[Row]) -> usize {
+    for index in 0..rows.len() {
+        let (text, resolved) = &rows[index];
         if is_resolved(alloc, files, text, resolved) != Ok(true) {
             return index;
         }
     }
-    RESOLVED.len()
+    rows.len()
 }
 
 #[test]
 fn resolvers_print_and_find_symbols_and_functions_or_refuse(rt: HostRuntime) {
-    let shown = count_until_failure(rt.alloc(), &mut MemFiles::new(rt.alloc(), 0));
-    assert!(rt; shown == RESOLVED.len(), "row {shown}");
+    let rows = &RESOLVED;
+    let shown = count_until_failure(rt.alloc(), &mut MemFiles::new(rt.alloc(), 0), rows);
+    assert!(rt; shown == rows.len(), "row {shown}");
 }
 
 /// Whether the path is refused so.

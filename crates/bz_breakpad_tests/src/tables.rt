@@ -4,9 +4,22 @@ use crate::fact::Row;
 use crate::holding::count_until_failure;
 use crate::read::Way::{self, Bytes, Version};
 use crate::{answers, functions, inspected, lines, names, sites, texts};
+use std::alloc::Global;
 
 /// What the rows of a table tell of, how their files are made, and the rows.
 type Table = (&'static str, Way, &'static [Row]);
+
+/// What the first table tells of whose file of a row doesn't show it, and this row; nothing where all
+/// show theirs.
+fn first_to_fail(alloc: Global, tables: &[Table]) -> (&'static str, usize) {
+    for (told, way, rows) in tables {
+        let shown = count_until_failure(alloc, rows, way);
+        if shown != rows.len() {
+            return (told, shown);
+        }
+    }
+    ("", 0)
+}
 
 /// Tables of texts and the records of their files.
 static TEXTS: [Table; 7] = [
@@ -21,10 +34,8 @@ static TEXTS: [Table; 7] = [
 
 #[test]
 fn files_have_the_records_of_their_texts(rt: HostRuntime) {
-    for (told, way, rows) in &TEXTS {
-        let shown = count_until_failure(rt.alloc(), rows, way);
-        assert!(rt; shown == rows.len(), "{told}: row {shown}");
-    }
+    let (told, row) = first_to_fail(rt.alloc(), &TEXTS);
+    assert!(rt; told.is_empty(), "{told}: row {row}");
 }
 
 /// Tables of names.
@@ -39,10 +50,8 @@ static NAMES: [Table; 6] = [
 
 #[test]
 fn files_have_the_names_of_their_records(rt: HostRuntime) {
-    for (told, way, rows) in &NAMES {
-        let shown = count_until_failure(rt.alloc(), rows, way);
-        assert!(rt; shown == rows.len(), "{told}: row {shown}");
-    }
+    let (told, row) = first_to_fail(rt.alloc(), &NAMES);
+    assert!(rt; told.is_empty(), "{told}: row {row}");
 }
 
 /// Tables of functions.
@@ -55,10 +64,8 @@ static FUNCTIONS: [Table; 4] = [
 
 #[test]
 fn functions_have_their_order_lines_and_calls(rt: HostRuntime) {
-    for (told, way, rows) in &FUNCTIONS {
-        let shown = count_until_failure(rt.alloc(), rows, way);
-        assert!(rt; shown == rows.len(), "{told}: row {shown}");
-    }
+    let (told, row) = first_to_fail(rt.alloc(), &FUNCTIONS);
+    assert!(rt; told.is_empty(), "{told}: row {row}");
 }
 
 /// Tables of answers.
@@ -74,8 +81,6 @@ static ANSWERS: [Table; 7] = [
 
 #[test]
 fn files_answer_addresses(rt: HostRuntime) {
-    for (told, way, rows) in &ANSWERS {
-        let shown = count_until_failure(rt.alloc(), rows, way);
-        assert!(rt; shown == rows.len(), "{told}: row {shown}");
-    }
+    let (told, row) = first_to_fail(rt.alloc(), &ANSWERS);
+    assert!(rt; told.is_empty(), "{told}: row {row}");
 }

@@ -12,10 +12,10 @@ use bz_samples::ELF_FUNCTION;
 /// - in memory with a perf map;
 /// - past the first mapping's end and before the next;
 /// - in a mapped file that isn't an ELF file.
-const ADDRS: &[Addr] = &[0x7000, 0x5000, 0x3008, 0x2800, 0x1004];
+pub(crate) const ADDRS: &[Addr] = &[0x7000, 0x5000, 0x3008, 0x2800, 0x1004];
 
 /// What is told of these addresses.
-const TOLD: &[Told] = &[
+pub(crate) const TOLD: &[Told] = &[
     Told::Unknown(Reason::Unmapped),
     Told::Unknown(Reason::Unsupported),
     Told::Symbol("jit", 0x3000, ""),
@@ -24,7 +24,7 @@ const TOLD: &[Told] = &[
 ];
 
 /// The mapping of an ELF file, which is there by its own path alone.
-const MAPPED_FILE: &[File] = &[
+pub(crate) const MAPPED_FILE: &[File] = &[
     (
         "/proc/7/maps",
         b"400000-401000 r-xp 00000000 08:01 11 /bin/e\n",
@@ -88,9 +88,10 @@ static STORIES: [&[Step]; 12] = [
 
 #[test]
 fn addresses_are_answered_or_refused_by_their_mappings(rt: HostRuntime) {
-    for index in 0..STORIES.len() {
+    let stories = &STORIES;
+    for index in 0..stories.len() {
         assert!(rt;
-            holds(rt.alloc(), NoDispatch, &[STORIES[index]]),
+            holds(rt.alloc(), NoDispatch, &[stories[index]]),
             "story {index}"
         );
     }

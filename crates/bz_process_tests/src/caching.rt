@@ -112,9 +112,10 @@ static PINNED_FILE: [Step; 14] = [
 
 #[test]
 fn processes_and_files_are_kept_until_they_are_evicted(rt: HostRuntime) {
-    for index in 0..STORIES.len() {
+    let stories = &STORIES;
+    for index in 0..stories.len() {
         assert!(rt;
-            holds(rt.alloc(), NoDispatch, STORIES[index]),
+            holds(rt.alloc(), NoDispatch, stories[index]),
             "story {index}"
         );
     }

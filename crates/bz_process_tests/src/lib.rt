@@ -1,11 +1,13 @@
-//! Tests of bz_proc and bz_process, over what they make public; and of texts that are cut, and deep
-//! trees.
+//! Tests of bz_proc and bz_process, over what they make public; of processes that a symbolizer is asked
+//! for; and of texts that are cut, and deep trees.
 #![tactic(auto)]
 
 #[cfg(test)]
 mod answers;
 #[cfg(test)]
 mod caching;
+#[cfg(test)]
+mod calling;
 #[cfg(test)]
 mod damaged;
 #[cfg(test)]
@@ -26,3 +28,5 @@ mod refusals;
 mod statuses;
 #[cfg(test)]
 mod steps;
+#[cfg(test)]
+mod symbolizer;

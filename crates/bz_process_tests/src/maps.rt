@@ -9,21 +9,20 @@ use std::alloc::Global;
 /// part of the system has no path that stands for it, and a mapping without a name has neither.
 type Told = (u64, u64, u64, &'static str, &'static str);
 
+/// Whether the path is this one.
+fn is_path(path: &EntryPath, maps_file: &str, text: &str) -> bool {
+    !maps_file.is_empty()
+        && path.maps_file.as_str() == maps_file
+        && path.symbolic_path.as_str() == text
+}
+
 /// Whether the name is this one.
-fn is_named(name: &Option<PathName>, maps_file: &str, text: &str) -> bool {
+fn is_named(name: &PathName, maps_file: &str, text: &str) -> bool {
     match name {
-        Some(
-            PathName::Path(
-                EntryPath {
-                    maps_file: file,
-                    symbolic_path: path,
-                },
-            ),
-        ) => !maps_file.is_empty() && file.as_str() == maps_file && path.as_str() == text,
-        Some(PathName::Component(part)) => {
+        PathName::Path(path) => is_path(path, maps_file, text),
+        PathName::Component(part) => {
             maps_file.is_empty() && !text.is_empty() && part.as_str() == text
         }
-        None => maps_file.is_empty() && text.is_empty(),
     }
 }
 
@@ -40,10 +39,9 @@ fn is_told(alloc: Global, entry: &MapsEntry, told: &Told) -> bool {
     entry.range.start == told.0
         && entry.range.end == told.1
         && entry.offset == told.2
-        && is_named(&entry.path_name, told.3, told.4)
         && match &entry.path_name {
-            Some(name) => is_copied(alloc, name),
-            None => true,
+            Some(name) => is_named(name, told.3, told.4) && is_copied(alloc, name),
+            None => told.3.is_empty() && told.4.is_empty(),
         }
 }
 
@@ -52,8 +50,8 @@ fn are_told(alloc: Global, entries: &[MapsEntry], told: &[Told]) -> bool {
     if entries.len() != told.len() {
         return false;
     }
-    for (entry, want) in entries.iter().zip(told) {
-        if !is_told(alloc, entry, want) {
+    for index in 0..told.len() {
+        if !is_told(alloc, &entries[index], &told[index]) {
             return false;
         }
     }
@@ -257,13 +255,15 @@ static REFUSED: [&[u8]; 53] = [
 #[test]
 fn a_text_tells_its_mappings_or_is_refused(rt: HostRuntime) {
     assert!(rt; texts_tell(rt.alloc()), "texts");
-    for index in 0..LINES.len() {
-        let (line, told) = LINES[index];
+    let lines = &LINES;
+    for index in 0..lines.len() {
+        let (line, told) = lines[index];
         assert!(rt; tells(rt.alloc(), Pid::Slf, line, &[told]), "line {index}");
     }
-    for index in 0..REFUSED.len() {
+    let refused = &REFUSED;
+    for index in 0..refused.len() {
         assert!(rt;
-            is_refused(rt.alloc(), REFUSED[index]),
+            is_refused(rt.alloc(), refused[index]),
             "refused text {index}"
         );
     }

@@ -74,8 +74,9 @@ fn is_owner(alloc: Global, text: &[u8], addr: u64, place: Option<usize>) -> Resu
 
 #[test]
 fn the_first_mapping_that_ends_above_answers_or_none_does(rt: HostRuntime) {
-    for index in 0..OWNERS.len() {
-        let (text, addr, place) = OWNERS[index];
+    let owners = &OWNERS;
+    for index in 0..owners.len() {
+        let (text, addr, place) = owners[index];
         assert!(rt;
             is_owner(rt.alloc(), text, addr, place) == Ok(true),
             "row {index}"

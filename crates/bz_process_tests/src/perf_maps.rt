@@ -223,18 +223,21 @@ fn cached_answers(alloc: Global) -> bool {
 
 #[test]
 fn perf_maps_lie_at_their_paths_and_answer_or_are_refused(rt: HostRuntime) {
-    for index in 0..ANSWERS.len() {
-        let (bytes, addr, told) = ANSWERS[index];
+    let rows = &ANSWERS;
+    for index in 0..rows.len() {
+        let (bytes, addr, told) = rows[index];
         assert!(rt; answers(rt.alloc(), bytes, addr, &told), "answer {index}");
     }
-    for index in 0..REFUSED.len() {
+    let refused = &REFUSED;
+    for index in 0..refused.len() {
         assert!(rt;
-            is_refused(rt.alloc(), REFUSED[index]),
+            is_refused(rt.alloc(), refused[index]),
             "refused text {index}"
         );
     }
-    for index in 0..PATHS.len() {
-        let (process, ns_tgid, path) = PATHS[index];
+    let paths = &PATHS;
+    for index in 0..paths.len() {
+        let (process, ns_tgid, path) = paths[index];
         assert!(rt; lies_at(rt.alloc(), process, ns_tgid, path), "path {index}");
     }
     assert!(rt; cached_answers(rt.alloc()), "a cached perf map");

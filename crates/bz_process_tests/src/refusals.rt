@@ -5,6 +5,7 @@ use crate::files::LATER;
 use crate::steps::{Step, holds};
 use bz_base::Error;
 use bz_process::NoDispatch;
+use std::alloc::Global;
 
 /// Steps by which process 7 isn't cached of the later files: a file is absent, denied or damaged, or a
 /// look fails.
@@ -80,22 +81,27 @@ static REFUSED_UNKNOWN: [&[Step]; 4] = [
     ],
 ];
 
+/// The first of the rows whose steps don't hold between what comes before them and after them.
+fn first_wrong(
+    alloc: Global,
+    before: &'static [Step],
+    rows: &[&'static [Step]],
+    after: &'static [Step],
+) -> Option<usize> {
+    for index in 0..rows.len() {
+        if !holds(alloc, NoDispatch, &[before, rows[index], after]) {
+            return Some(index);
+        }
+    }
+    None
+}
+
 #[test]
 fn a_refusal_keeps_nothing(rt: HostRuntime) {
-    for index in 0..REFUSED.len() {
-        let story = &[REFUSED[index], IS_UNKEPT];
-        assert!(rt;
-            holds(rt.alloc(), NoDispatch, story),
-            "remembered, row {index}"
-        );
-    }
-    for index in 0..REFUSED_UNKNOWN.len() {
-        let story = &[REFUSED_UNKNOWN[index], IS_UNKEPT];
-        assert!(rt;
-            holds(rt.alloc(), NoDispatch, story),
-            "not remembered, row {index}"
-        );
-    }
+    let remembered = first_wrong(rt.alloc(), &[], &REFUSED, IS_UNKEPT);
+    assert!(rt; remembered == None, "remembered, row {remembered:?}");
+    let unknown = first_wrong(rt.alloc(), &[], &REFUSED_UNKNOWN, IS_UNKEPT);
+    assert!(rt; unknown == None, "not remembered, row {unknown:?}");
 }
 
 /// Steps by which process 7 is cached anew, though its status is absent, denied or damaged.
@@ -119,18 +125,8 @@ static CACHED_ANEW: [&[Step]; 3] = [
 
 #[test]
 fn a_cached_process_stays_or_is_cached_anew(rt: HostRuntime) {
-    for index in 0..REFUSED.len() {
-        let story = &[CACHED, REFUSED[index], STANDS_ALONE];
-        assert!(rt;
-            holds(rt.alloc(), NoDispatch, story),
-            "refused, row {index}"
-        );
-    }
-    for index in 0..CACHED_ANEW.len() {
-        let story = &[CACHED, CACHED_ANEW[index], IS_LATER];
-        assert!(rt;
-            holds(rt.alloc(), NoDispatch, story),
-            "cached anew, row {index}"
-        );
-    }
+    let refused = first_wrong(rt.alloc(), CACHED, &REFUSED, STANDS_ALONE);
+    assert!(rt; refused == None, "refused, row {refused:?}");
+    let anew = first_wrong(rt.alloc(), CACHED, &CACHED_ANEW, IS_LATER);
+    assert!(rt; anew == None, "cached anew, row {anew:?}");
 }

@@ -61,12 +61,14 @@ static REFUSED: [&[u8]; 21] = [
 
 #[test]
 fn a_status_tells_its_last_id_or_none_or_is_refused(rt: HostRuntime) {
-    for index in 0..TOLD.len() {
-        let (status, id) = TOLD[index];
+    let told = &TOLD;
+    for index in 0..told.len() {
+        let (status, id) = told[index];
         assert!(rt; parse_ns_tgid(status) == Ok(id), "status {index}");
     }
-    for index in 0..REFUSED.len() {
-        let told = parse_ns_tgid(REFUSED[index]);
-        assert!(rt; told == Err(Error::InvalidData), "refused text {index}");
+    let refused = &REFUSED;
+    for index in 0..refused.len() {
+        let id = parse_ns_tgid(refused[index]);
+        assert!(rt; id == Err(Error::InvalidData), "refused text {index}");
     }
 }

@@ -89,8 +89,8 @@ fn are_told(answers: &[Symbolized<'_>], all: &[Told]) -> bool {
     if answers.len() != all.len() {
         return false;
     }
-    for (answer, told) in answers.iter().zip(all) {
-        if !is_told(answer, told) {
+    for index in 0..all.len() {
+        if !is_told(&answers[index], &all[index]) {
             return false;
         }
     }
@@ -102,6 +102,22 @@ fn is_refusal(error: Error, told: &Told) -> bool {
     match told {
         Told::Refused(want) => error == *want,
         _ => false,
+    }
+}
+
+/// Whether an address alone is answered or refused so.
+pub(crate) fn is_given(answer: Result<Symbolized<'_>, Error>, told: &Told) -> bool {
+    match answer {
+        Ok(answer) => is_told(&answer, told),
+        Err(error) => is_refusal(error, told),
+    }
+}
+
+/// Whether a batch is answered so, or its refusal is all that is told.
+pub(crate) fn are_given(answers: Result<Vec<Symbolized<'_>>, Error>, told: &[Told]) -> bool {
+    match answers {
+        Ok(answers) => are_told(&answers, told),
+        Err(error) => told.len() == 1 && is_refusal(error, &told[0]),
     }
 }
 
@@ -130,10 +146,10 @@ fn alone_tells<D: ProcessDispatch + Drop>(
 ) -> bool {
     let query = query(asked);
     let input = Input::AbsAddr(addr);
-    match processes.symbolize_single(elf, alloc, files, &query, &FindSymOpts::Basic, input) {
-        Ok(answer) => is_told(&answer, told),
-        Err(error) => is_refusal(error, told),
-    }
+    is_given(
+        processes.symbolize_single(elf, alloc, files, &query, &FindSymOpts::Basic, input),
+        told,
+    )
 }
 
 /// Whether this is told of a batch.
@@ -146,10 +162,10 @@ fn batch_tells<D: ProcessDispatch + Drop>(
     told: &[Told],
 ) -> bool {
     let query = query((true, true));
-    match processes.symbolize(elf, alloc, files, &query, &FindSymOpts::Basic, input) {
-        Ok(answers) => are_told(&answers, told),
-        Err(error) => told.len() == 1 && is_refusal(error, &told[0]),
-    }
+    are_given(
+        processes.symbolize(elf, alloc, files, &query, &FindSymOpts::Basic, input),
+        told,
+    )
 }
 
 /// Caches the mappings and the perf map of process 7, as far as is asked.

@@ -4,12 +4,11 @@ ghost use Rattle.std.specs.Prelude.{◌≡◌, ◌<◌};
 
 use crate::lookups::{Then, looks_up};
 use crate::many::{self, Batch};
-use crate::nested::answers_each_alone;
 use crate::told::{Told, are_given, is_given};
 use bz_base::{Input, Result, Steps};
 use bz_files::MemFiles;
 use bz_symbolize::source::{Breakpad, Elf, Gsym, GsymData, GsymFile, Process, Source};
-use bz_symbolize::{Pid, ProcessDispatch, Symbolizer};
+use bz_symbolize::{Pid, Symbolizer};
 use std::alloc::Global;
 use std::marker::Brand;
 use std::sync::ledger::{Blank, Ledger};
@@ -28,8 +27,6 @@ pub(crate) enum Subject {
     Elf(&'static str),
     /// The process of this number, which is the own one for 0.
     Process(u32),
-    /// The process of this number, whose mapped files are looked at by their own paths.
-    ProcessByPaths(u32),
 }
 
 /// What is asked of it, and what is told.
@@ -42,8 +39,6 @@ pub(crate) enum Asked {
     Counted(Input<&'static [u64]>, &'static [Told]),
     /// A batch that is looked up, and what comes then.
     LookedUp(Input<&'static [u64]>, &'static [Told], Then),
-    /// A batch of a function with calls in calls, which is answered as its addresses are alone.
-    Nested,
     /// A batch of a file of many functions, with code info or not, in its order and in ascending order.
     Many(Batch, bool),
 }
@@ -57,18 +52,13 @@ pub(crate) fn source<'d>(alloc: Global, bytes: &'d [u8], subject: &Subject) -> R
         Subject::Gsym(path) => Source::from(GsymFile::new(String::from_str(alloc, path)?)),
         Subject::Elf(path) => Source::from(Elf::new(String::from_str(alloc, path)?)),
         Subject::Process(number) => Source::from(Process::new(Pid::from(*number))),
-        Subject::ProcessByPaths(number) => {
-            let mut process = Process::new(Pid::from(*number));
-            process.map_files = false;
-            Source::from(process)
-        }
     })
 }
 
 /// Whether the address alone is answered or refused as is told.
-pub(crate) fn answers_single<D: ProcessDispatch + Drop>(
+fn answers_single(
     alloc: Global,
-    symbolizer: &mut Symbolizer<D>,
+    symbolizer: &mut Symbolizer,
     files: &mut MemFiles,
     src: &Source<'_>,
     input: Input<u64>,
@@ -78,9 +68,9 @@ pub(crate) fn answers_single<D: ProcessDispatch + Drop>(
 }
 
 /// Whether the batch is answered or refused as is told.
-pub(crate) fn answers<D: ProcessDispatch + Drop>(
+pub(crate) fn answers(
     alloc: Global,
-    symbolizer: &mut Symbolizer<D>,
+    symbolizer: &mut Symbolizer,
     files: &mut MemFiles,
     src: &Source<'_>,
     input: Input<&[u64]>,
@@ -129,7 +119,6 @@ fn answers_asked(
             let blank = Blank::new(1);
             looks_up::<Brand>(alloc, symbolizer, files, src, *input, told, then, blank)
         }
-        Asked::Nested => answers_each_alone(alloc, symbolizer, files, src),
         Asked::Many(batch, code_info) => {
             many::answers_many(alloc, symbolizer, files, src, batch, *code_info)
         }

@@ -3,16 +3,14 @@
 use crate::asking::Asked;
 use crate::asking::Asked::Single;
 use crate::asking::Subject::{Elf, Process};
-use crate::process::FILES;
 use crate::steps::Step::{
-    Ask, AskStill, AskWithoutFiles, Fail, Faults, Forget, Keep, KeepStill, NoFiles, Opens, Put,
-    Remove,
+    Ask, AskStill, Fail, Faults, Forget, Keep, KeepStill, NoFiles, Opens, Put, Remove,
 };
 use crate::steps::{ALL, Script, hold};
 use crate::told::Told::{Named, Refused, Unknown};
 use bz_base::{Error, Input, Reason, Result};
 use bz_files::MemFiles;
-use bz_samples::ELF_FUNCTION;
+use bz_samples::{ELF_FUNCTION, PERF_FUNCTION, THREE_MAPPINGS};
 use bz_symbolize::cache::{Cache, Elf as ElfToKeep, Process as ProcessToKeep};
 use bz_symbolize::evict::{Elf as ElfToForget, Evict, Process as ProcessToForget};
 use bz_symbolize::{Pid, Symbolizer};
@@ -115,6 +113,14 @@ const KEPT_AS_HELD: Script = &[
     AskStill(Elf("/e"), ANSWERS),
 ];
 
+/// The files of process 7: its mapped file isn't an ELF file, and its perf map has a function.
+const FILES: Script = &[
+    Put("/proc/7/maps", THREE_MAPPINGS),
+    Put("/proc/7/map_files/1000-2000", b"\x7fELF"),
+    Put("/proc/7/status", b"Name:\tx\n"),
+    Put("/proc/7/root/tmp/perf-7.map", PERF_FUNCTION),
+];
+
 /// Process 7.
 const PROCESS: Kept = Kept::Process(7);
 
@@ -128,22 +134,30 @@ const ABSENT_PROCESS: Asked = Single(Input::AbsAddr(0x3008), Refused(Error::NotF
 /// forgotten.
 const PROCESS_KEPT: Script = &[
     Keep(PROCESS, None),
-    AskWithoutFiles(Process(7), ANSWERS_JIT),
+    NoFiles,
+    Ask(Process(7), ANSWERS_JIT),
     Put("/proc/7/maps", b"x\n"),
     Keep(PROCESS, Some(Error::InvalidData)),
-    AskWithoutFiles(Process(7), ANSWERS_JIT),
+    NoFiles,
+    Ask(Process(7), ANSWERS_JIT),
     Forget(PROCESS),
-    AskWithoutFiles(Process(7), ABSENT_PROCESS),
+    Ask(Process(7), ABSENT_PROCESS),
 ];
 
 /// The perf map alone is kept where it alone is asked for, and nothing is read where nothing is.
-const PARTS_KEPT: Script = &[
+const PERF_MAP_KEPT: Script = &[
     Keep(Kept::Parts(7, false, false), None),
     Opens(0),
     Keep(Kept::Parts(7, false, true), None),
-    AskWithoutFiles(Process(7), ABSENT_PROCESS),
+    NoFiles,
+    Ask(Process(7), ABSENT_PROCESS),
+];
+
+/// The mappings alone are kept beside it.
+const MAPPINGS_KEPT: Script = &[
     Keep(Kept::Parts(7, true, false), None),
-    AskWithoutFiles(Process(7), ANSWERS_JIT),
+    NoFiles,
+    Ask(Process(7), ANSWERS_JIT),
 ];
 
 /// Scripts that follow one another, each time over new files.
@@ -151,7 +165,7 @@ static SCRIPTS: [&[Script]; 4] = [
     &[LEFT_UNPINNED, KEPT_UNTIL_FORGOTTEN],
     &[KEPT_AS_HELD],
     &[FILES, PROCESS_KEPT],
-    &[FILES, PARTS_KEPT],
+    &[FILES, PERF_MAP_KEPT, FILES, MAPPINGS_KEPT],
 ];
 
 #[test]
@@ -179,20 +193,22 @@ static LATER: Script = &[
 /// A request for the later files, of which one look fails, is refused.
 static REFUSED: Script = &[Keep(PROCESS, Some(Error::ReadFault)), Faults(1)];
 
-/// All that was kept answers as before, and an address that only the later files map has no mapping.
+/// An address that only the later files map has no mapping.
+const UNMAPPED: Asked = Single(Input::AbsAddr(0x4008), Unknown(Reason::Unmapped));
+
+/// All that was kept answers as before.
 const BOTH_STAY: Script = &[
-    AskWithoutFiles(Process(7), ANSWERS_JIT),
-    AskWithoutFiles(
-        Process(7),
-        Single(Input::AbsAddr(0x4008), Unknown(Reason::Unmapped)),
-    ),
-    AskWithoutFiles(Elf("/e"), ANSWERS),
+    NoFiles,
+    Ask(Process(7), ANSWERS_JIT),
+    Ask(Process(7), UNMAPPED),
+    Ask(Elf("/e"), ANSWERS),
 ];
 
 /// Nothing is kept of the process, but the ELF file is.
 const FILE_STAYS: Script = &[
-    AskWithoutFiles(Process(7), ABSENT_PROCESS),
-    AskWithoutFiles(Elf("/e"), ANSWERS),
+    NoFiles,
+    Ask(Process(7), ABSENT_PROCESS),
+    Ask(Elf("/e"), ANSWERS),
 ];
 
 /// What is kept of the process before the later files come, the look that fails, and what stays. The

@@ -1,4 +1,5 @@
-//! Tests of bz_symbolize, over what it makes public.
+//! Tests of bz_symbolize, over what it makes public. More of processes and of dispatchers are in
+//! bz_process_tests, and more of calls that fail in bz_stacks_tests.
 #![tactic(auto)]
 
 #[cfg(test)]
@@ -12,8 +13,6 @@ mod changes;
 #[cfg(test)]
 mod copies;
 #[cfg(test)]
-mod dispatchers;
-#[cfg(test)]
 mod elf;
 #[cfg(test)]
 mod gsym;
@@ -23,10 +22,6 @@ mod keeping;
 mod lookups;
 #[cfg(test)]
 mod many;
-#[cfg(test)]
-mod nested;
-#[cfg(test)]
-mod process;
 #[cfg(test)]
 mod steps;
 #[cfg(test)]

@@ -24,10 +24,11 @@ pub(crate) enum Then {
 
 /// A copy of the addresses.
 fn copied(alloc: Global, input: Input<&[u64]>) -> Result<Input<Vec<u64>>> {
+    let addrs = Vec::from_slice(alloc, input.into_inner())?;
     Ok(match input {
-        Input::AbsAddr(addrs) => Input::AbsAddr(Vec::from_slice(alloc, addrs)?),
-        Input::VirtOffset(addrs) => Input::VirtOffset(Vec::from_slice(alloc, addrs)?),
-        Input::FileOffset(addrs) => Input::FileOffset(Vec::from_slice(alloc, addrs)?),
+        Input::AbsAddr(_) => Input::AbsAddr(addrs),
+        Input::VirtOffset(_) => Input::VirtOffset(addrs),
+        Input::FileOffset(_) => Input::FileOffset(addrs),
     })
 }
 

@@ -4,7 +4,6 @@ ghost use Rattle.std.specs.Prelude.{◌≡◌, ◌<◌};
 
 use crate::asking::Asked::Many;
 use crate::breakpad::FILE;
-use crate::nested::CALLS;
 use crate::steps::Step::{Ask, Opens, PutGenerated};
 use crate::steps::{ALL, CODE_INFO_OFF, Script, hold};
 use crate::told::{Code, is_located};
@@ -325,15 +324,9 @@ const LARGE: Script = &[
     Opens(1),
 ];
 
-/// Each over new files.
-static SCRIPTS: [Script; 2] = [CALLS, ORDERS];
-
 #[test]
-fn addresses_answer_alike_alone_and_in_any_order(rt: HostRuntime) {
-    let scripts = &SCRIPTS;
-    for index in 0..scripts.len() {
-        assert!(rt; hold(rt.alloc(), &ALL, &[scripts[index]]), "script {index}");
-    }
+fn addresses_answer_alike_in_any_order(rt: HostRuntime) {
+    assert!(rt; hold(rt.alloc(), &ALL, &[ORDERS]));
 }
 
 #[test]

@@ -5,7 +5,6 @@ use crate::breakpad::asks_of_file;
 use crate::elf::{Registration, registers_all};
 use crate::keeping::{Kept, forgets, keeps};
 use crate::many::put_generated;
-use crate::process::asks_of_process;
 use bz_base::Error;
 use bz_files::{Files, MemFiles};
 use bz_symbolize::{Builder, Symbolizer};
@@ -63,10 +62,6 @@ pub(crate) enum Step {
     Ask(Subject, Asked),
     /// The other symbolizer does.
     AskStill(Subject, Asked),
-    /// The symbolizer does, though no file is there.
-    AskWithoutFiles(Subject, Asked),
-    /// A caller with a symbolizer of its own gets what is told of process 7.
-    CallOfProcess,
     /// A caller with a symbolizer of its own gets what is told of the file at `/app.sym`.
     CallOfFile,
     /// The symbolizer is asked to keep this, and refuses so, if it does.
@@ -137,7 +132,6 @@ fn holds_of_files(alloc: Global, files: &mut MemFiles, step: &Step) -> bool {
         Step::Fail(call) => files.fail_call(alloc, *call).is_ok(),
         Step::Faults(count) => files.faults() == *count,
         Step::Opens(count) => files.opens() == *count,
-        Step::CallOfProcess => asks_of_process(alloc, files),
         Step::CallOfFile => asks_of_file(alloc, files),
         _ => false,
     }
@@ -149,16 +143,12 @@ fn holds_of(
     symbolizer: &mut Symbolizer,
     still: &mut Symbolizer,
     files: &mut MemFiles,
-    none: &mut MemFiles,
     bytes: &[u8],
     step: &Step,
 ) -> bool {
     match step {
         Step::Ask(subject, asked) => asks(alloc, symbolizer, files, bytes, subject, asked),
         Step::AskStill(subject, asked) => asks(alloc, still, files, bytes, subject, asked),
-        Step::AskWithoutFiles(subject, asked) => {
-            asks(alloc, symbolizer, none, bytes, subject, asked)
-        }
         Step::Keep(kept, refused) => keeps(alloc, symbolizer, files, kept, *refused),
         Step::KeepStill(kept, refused) => keeps(alloc, still, files, kept, *refused),
         Step::Forget(kept) => forgets(alloc, symbolizer, kept),
@@ -173,13 +163,12 @@ fn all_hold_of(
     symbolizer: &mut Symbolizer,
     still: &mut Symbolizer,
     files: &mut MemFiles,
-    none: &mut MemFiles,
     bytes: &[u8],
     parts: &[Script],
 ) -> bool {
     for steps in parts {
         for step in *steps {
-            if !holds_of(alloc, symbolizer, still, files, none, bytes, step) {
+            if !holds_of(alloc, symbolizer, still, files, bytes, step) {
                 return false;
             }
         }
@@ -187,19 +176,26 @@ fn all_hold_of(
     true
 }
 
+/// Whether all is as they say beside a new symbolizer that is the other one.
+fn hold_beside(
+    alloc: Global,
+    symbolizer: &mut Symbolizer,
+    files: &mut MemFiles,
+    bytes: &[u8],
+    parts: &[Script],
+) -> bool {
+    let mut still = without_features(alloc);
+    all_hold_of(alloc, symbolizer, &mut still, files, bytes, parts)
+}
+
+/// Whether all is as they say over new symbolizers.
+fn hold_over(alloc: Global, files: &mut MemFiles, start: &Start<'_>, parts: &[Script]) -> bool {
+    let mut symbolizer = with_features(alloc, start.code_info, start.calls);
+    hold_beside(alloc, &mut symbolizer, files, start.bytes, parts)
+}
+
 /// Whether all is as the steps say, part after part, over new files and new symbolizers.
 pub(crate) fn hold(alloc: Global, start: &Start<'_>, parts: &[Script]) -> bool {
     let mut files = MemFiles::new(alloc, 0);
-    let mut none = MemFiles::new(alloc, 0);
-    let mut symbolizer = with_features(alloc, start.code_info, start.calls);
-    let mut still = without_features(alloc);
-    all_hold_of(
-        alloc,
-        &mut symbolizer,
-        &mut still,
-        &mut files,
-        &mut none,
-        start.bytes,
-        parts,
-    )
+    hold_over(alloc, &mut files, start, parts)
 }

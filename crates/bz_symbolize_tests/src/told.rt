@@ -89,7 +89,7 @@ fn is_symbol(symbol: &Sym<'_>, told: &Told) -> bool {
 }
 
 /// Whether the answer is what is told.
-pub(crate) fn is_told(answer: &Symbolized<'_>, told: &Told) -> bool {
+fn is_told(answer: &Symbolized<'_>, told: &Told) -> bool {
     match answer {
         Symbolized::Sym(symbol) => is_symbol(symbol, told),
         Symbolized::Unknown(reason) => match told {

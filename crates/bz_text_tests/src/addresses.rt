@@ -1,7 +1,6 @@
 //! Lines of addresses, and fields.
 
-use bz_requests::{BadInput, address, fields};
-use bz_symq::read_addrs;
+use bz_requests::{BadInput, address, fields, read_addrs};
 use std::alloc::Global;
 
 /// An input, how many addresses it says, the last of them, and its first line that isn't well formed;

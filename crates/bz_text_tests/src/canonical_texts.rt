@@ -1,7 +1,7 @@
 //! Texts of files, and their canonical texts.
 
-use crate::files::file_of;
 use bz_base::Error;
+use bz_breakpad::SymbolFile;
 use bz_canon::canonical;
 use bz_samples::{BREAKPAD_KINDS, BREAKPAD_PROGRAM};
 use std::alloc::Global;
@@ -123,7 +123,8 @@ static LINES_WRITTEN: [&[u8]; 14] = [
 
 /// The canonical text of a text.
 fn canonical_of(alloc: Global, text: &[u8]) -> Result<Vec<u8>, Error> {
-    canonical(alloc, &file_of(alloc, text)?)
+    let file = SymbolFile::from_bytes(alloc, Vec::from_slice(alloc, text)?)?;
+    canonical(alloc, &file)
 }
 
 /// Whether a text has this canonical text.

@@ -1,6 +1,5 @@
-//! Tests of texts and files that are read and made, over what crates make public. Of bz_requests,
-//! bz_symq, bz_words, bz_serve and bz_breakpad_table they show what is read. Of bz_convert,
-//! bz_gsym_layout, bz_converting and bz_canon they show what is made.
+//! Tests of texts, over what crates make public. Of bz_requests, bz_words and bz_breakpad_table they
+//! show what is read; of bz_canon what is written, and of bz_words what is said of a run.
 #![tactic(auto)]
 
 #[cfg(test)]
@@ -10,20 +9,12 @@ mod answer_texts;
 #[cfg(test)]
 mod canonical_texts;
 #[cfg(test)]
-mod conversions;
-#[cfg(test)]
-mod faults;
-#[cfg(test)]
-mod files;
-#[cfg(test)]
-mod frame_lines;
-#[cfg(test)]
 mod generated;
-#[cfg(test)]
-mod plans;
 #[cfg(test)]
 mod refused_texts;
 #[cfg(test)]
 mod requests;
+#[cfg(test)]
+mod said;
 #[cfg(test)]
 mod words;

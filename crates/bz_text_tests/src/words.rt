@@ -198,7 +198,7 @@ static COMPLAINTS: [(&str, &str); 9] = [
 ];
 
 /// The words of a line, where memory is left.
-fn words_of(alloc: Global, line: &str) -> Option<Vec<String>> {
+pub(crate) fn words_of(alloc: Global, line: &str) -> Option<Vec<String>> {
     let mut words = Vec::new(alloc);
     for word in line.split(' ') {
         let Ok(word) = String::from_str(alloc, word) else {

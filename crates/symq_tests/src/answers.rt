@@ -1,8 +1,8 @@
 //! The answers of Breakpad files.
 
-use crate::runs::Edit::{Bytes, Text};
-use crate::runs::{ADDRESSES, FIRST_RUN, Row};
 use bz_samples::{BREAKPAD_CALLS, BREAKPAD_KINDS, BREAKPAD_PROGRAM};
+use symq_runs::Edit::{Bytes, Text};
+use symq_runs::{ADDRESSES, FIRST_RUN, Row};
 
 /// The first file's answers to the two addresses.
 const ANSWERS: &str =

@@ -1,8 +1,8 @@
 //! Canonical texts.
 
-use crate::runs::Edit::Text;
-use crate::runs::{FIRST_RUN, Row, USAGE};
 use bz_symq::Status;
+use symq_runs::Edit::Text;
+use symq_runs::{FIRST_RUN, Row, USAGE};
 
 /// A run that makes the canonical text of the first file. A second look at files and a second piece of
 /// output would fail, and don't come.

@@ -1,9 +1,9 @@
 //! Converted files.
 
-use crate::runs::Edit::{Bytes, Deny, Text};
-use crate::runs::{FIRST_RUN, Row};
 use bz_samples::BREAKPAD_KINDS;
 use bz_symq::Status;
+use symq_runs::Edit::{Bytes, Deny, Text};
+use symq_runs::{FIRST_RUN, Row};
 
 /// A conversion of a Breakpad file of one function with one line, to GSYM bytes.
 const CONVERTED: Row = Row {

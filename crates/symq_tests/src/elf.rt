@@ -1,9 +1,9 @@
 //! ELF files.
 
-use crate::runs::Edit::{Bytes, Text};
-use crate::runs::{FIRST_RUN, Row};
 use bz_samples::ELF_FUNCTION;
 use bz_symq::Status;
+use symq_runs::Edit::{Bytes, Text};
+use symq_runs::{FIRST_RUN, Row};
 
 /// The front of a file of 32 bits.
 const OTHER_CLASS: &str = "\x7fELF\x01\x01";

@@ -1,8 +1,8 @@
 //! How a run ends, and what is written where nothing is answered.
 
-use crate::runs::Edit::Text;
-use crate::runs::{ADDRESSES, FIRST_RUN, Row, USAGE};
 use bz_symq::Status;
+use symq_runs::Edit::Text;
+use symq_runs::{ADDRESSES, FIRST_RUN, Row, USAGE};
 
 /// A run that is refused, over a path where no file is.
 const ABSENT: Row = Row {

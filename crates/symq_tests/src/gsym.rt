@@ -1,9 +1,9 @@
 //! GSYM files.
 
-use crate::runs::Edit::{Bytes, Text};
-use crate::runs::{FIRST_RUN, Row, USAGE};
 use bz_samples::{GSYM_CALLS, GSYM_LINES};
 use bz_symq::Status;
+use symq_runs::Edit::{Bytes, Text};
+use symq_runs::{FIRST_RUN, Row, USAGE};
 
 /// A run over a file of two functions with lines.
 const LINES: Row = Row {

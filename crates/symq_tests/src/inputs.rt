@@ -1,7 +1,7 @@
 //! Inputs that aren't addresses, and the longest ones.
 
-use crate::runs::{FIRST_RUN, Row};
 use bz_symq::Status;
+use symq_runs::{FIRST_RUN, Row};
 
 /// An input with a bad line.
 const BAD: Row = Row {

@@ -1,10 +1,10 @@
 //! Answers that are written in several pieces.
 
-use crate::runs::Edit::Text;
-use crate::runs::{FIRST_RUN, Row, ends_on};
 use bz_base::Result;
 use bz_symq::Status;
 use std::alloc::Global;
+use symq_runs::Edit::Text;
+use symq_runs::{FIRST_RUN, Row, ends_on};
 
 /// A run over one function with more addresses than have their answers written at a time.
 const WIDE: Row = Row {

@@ -1,9 +1,9 @@
 //! Processes.
 
-use crate::runs::Edit::{self, Bytes, Deny, Text};
-use crate::runs::{FIRST_RUN, Row, USAGE};
 use bz_samples::{ELF_FUNCTION, THREE_MAPPINGS};
 use bz_symq::{Status, own_pid};
+use symq_runs::Edit::{self, Bytes, Deny, Text};
+use symq_runs::{FIRST_RUN, Row, USAGE};
 
 /// The mappings of a process that maps an ELF file, and memory.
 const ELF: &str =
@@ -146,8 +146,9 @@ static STATS: [(&[u8], u32); 7] = [
 
 #[test]
 fn reads_the_own_id_or_none(rt: HostRuntime) {
-    for index in 0..STATS.len() {
-        let (text, id) = STATS[index];
+    let stats = &STATS;
+    for index in 0..stats.len() {
+        let (text, id) = stats[index];
         assert!(rt; own_pid(text) == id, "row {index}");
     }
 }

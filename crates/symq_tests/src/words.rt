@@ -1,31 +1,7 @@
 //! Words of the command line, as far as they show in a run.
 
-use crate::runs::Edit::{self, Bytes, Text};
-use crate::runs::{FIRST_RUN, Row, USAGE};
-use bz_samples::ELF_FUNCTION;
 use bz_symq::Status;
-
-/// A Breakpad file of one function with lines and an inlined call.
-pub(crate) const SOURCE: &str =
-    "MODULE Linux x86 ffff0000 bar\nFILE 53 bar.c\nINLINE_ORIGIN 1 a\nFUNC 1000 30 10 another func\nINLINE 0 5 53 1 1000 8 1010 8\n1000 30 7 53\n";
-
-/// The Breakpad file at two paths, one of which looks like a flag, and a process with the ELF file that
-/// it maps.
-pub(crate) const SOURCES: &[Edit] = &[
-    Text("/s.sym", SOURCE),
-    Text("--no-inlined", SOURCE),
-    Bytes("/bin/e", &ELF_FUNCTION),
-    Text(
-        "/proc/7/maps",
-        "400000-401000 r-xp 00000000 08:01 11 /bin/e\n",
-    ),
-];
-
-/// An answer of the Breakpad file, and the same without code info.
-pub(crate) const WHOLE: &str =
-    "0x1010: another func+0x10 start 0x1000 size 0x30 module bar at bar.c:5\n  a at bar.c:7\n";
-
-pub(crate) const BARE: &str = "0x1010: another func+0x10 start 0x1000 size 0x30 module bar at -\n";
+use symq_runs::{BARE_ANSWER, FIRST_RUN, Row, SOURCES, USAGE, WHOLE_ANSWER};
 
 /// Two flags and the option, each in each place, and words behind `--`, none of which show in the
 /// answer.
@@ -48,7 +24,7 @@ const ANSWERED: Row = Row {
     edits: SOURCES,
     own_pid: 1,
     input: "1010\n",
-    written: WHOLE,
+    written: WHOLE_ANSWER,
     ..FIRST_RUN
 };
 
@@ -90,7 +66,7 @@ pub(crate) static ROWS: [Row; 10] = [
             &["breakpad", "/s.sym", "--no-code-info"],
             &["--no-code-info", "--no-inlined", "breakpad", "/s.sym"],
         ],
-        written: BARE,
+        written: BARE_ANSWER,
         ..ANSWERED
     },
     // Behind `--` words that look like flags are arguments.

@@ -113,13 +113,18 @@ fn has_tree(
     Ok(has_calls(alloc, &context, 0x1005, inside) && has_calls(alloc, &context, 0x1020, behind))
 }
 
-/// A text of a function with calls one inside the other, each of 0x10 bytes.
-fn text_of(alloc: Global) -> Result<String, AllocError> {
-    let mut text = String::from_str(alloc, "FILE 1 a.c\nINLINE_ORIGIN 1 g\nFUNC 1000 20 0 f\n")?;
+/// Writes the records of calls one inside the other, each of 0x10 bytes, and the line record.
+fn write_calls(text: &mut String) -> Result<(), AllocError> {
     for depth in 0..DEPTH {
         write!(text, "INLINE {depth} 3 1 1 1000 10\n")?;
     }
-    text.push_str("1000 20 5 1\n")?;
+    text.push_str("1000 20 5 1\n")
+}
+
+/// A text of a function with these calls.
+fn text_of(alloc: Global) -> Result<String, AllocError> {
+    let mut text = String::from_str(alloc, "FILE 1 a.c\nINLINE_ORIGIN 1 g\nFUNC 1000 20 0 f\n")?;
+    write_calls(&mut text)?;
     Ok(text)
 }
 

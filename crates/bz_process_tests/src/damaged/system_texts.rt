@@ -82,8 +82,9 @@ fn tells_id(len: usize, expected: &Result<Option<u32>, Error>) -> bool {
 
 #[test]
 fn cut_texts_are_told_or_refused(rt: HostRuntime) {
-    for index in 0..MAPPINGS.len() {
-        let (from, to, count) = MAPPINGS[index];
+    let mappings = &MAPPINGS;
+    for index in 0..mappings.len() {
+        let (from, to, count) = mappings[index];
         for len in from..=to {
             assert!(rt;
                 tells_mappings(rt.alloc(), len, count),
@@ -91,8 +92,9 @@ fn cut_texts_are_told_or_refused(rt: HostRuntime) {
             );
         }
     }
-    for index in 0..PERF_MAPS.len() {
-        let (from, to, is_taken) = PERF_MAPS[index];
+    let perf_maps = &PERF_MAPS;
+    for index in 0..perf_maps.len() {
+        let (from, to, is_taken) = perf_maps[index];
         for len in from..=to {
             assert!(rt;
                 is_taken_as(rt.alloc(), len, is_taken),
@@ -100,8 +102,9 @@ fn cut_texts_are_told_or_refused(rt: HostRuntime) {
             );
         }
     }
-    for index in 0..IDS.len() {
-        let (from, to, id) = IDS[index];
+    let ids = &IDS;
+    for index in 0..ids.len() {
+        let (from, to, id) = ids[index];
         for len in from..=to {
             assert!(rt; tells_id(len, &id), "{len} bytes of a status");
         }

@@ -3,7 +3,7 @@
 ghost use Rattle.std.specs.Prelude.{◌≡◌, ◌<◌};
 
 use crate::failing::sources::{Question, Told};
-use bz_base::{Input, Result, Steps, Symbolized};
+use bz_base::{Input, Result, Steps, Sym, Symbolized};
 use bz_files::MemFiles;
 use bz_symbolize::source::Source;
 use bz_symbolize::{Lookups, Symbolizer};
@@ -24,45 +24,42 @@ pub(crate) enum Call {
 /// The calls that ask for the addresses of a question, of which the last two take its first alone.
 pub(crate) static CALLS: [Call; 4] = [Call::Batch, Call::Counted, Call::LookedUp, Call::Single];
 
-/// The addresses as an input of this kind.
-fn input<T: Drop>(kind: Input<()>, addrs: T) -> Input<T> {
-    match kind {
-        Input::FileOffset(_) => Input::FileOffset(addrs),
-        Input::VirtOffset(_) => Input::VirtOffset(addrs),
-        Input::AbsAddr(_) => Input::AbsAddr(addrs),
-    }
+/// Whether the symbol is what is told. It has no inlined calls.
+fn is_symbol(symbol: &Sym<'_>, told: &Told) -> bool {
+    told.1 == None
+        && symbol.name.as_str() == told.0
+        && symbol.code_info.is_some() == told.2
+        && symbol.inlined.is_empty()
 }
 
-/// Whether the answer is what is told at this place. No symbol has inlined calls.
-fn is_told(answer: &Symbolized<'_>, told: &[Told], place: usize) -> bool {
-    match (answer, told.get(place)) {
-        (Symbolized::Sym(symbol), Some((name, None, has_site))) => {
-            symbol.name.as_str() == *name
-                && symbol.code_info.is_some() == *has_site
-                && symbol.inlined.is_empty()
-        }
-        (Symbolized::Unknown(given), Some((_, Some(reason), _))) => given == reason,
-        _ => false,
+/// Whether the answer is what is told.
+pub(crate) fn is_told(answer: &Symbolized<'_>, told: &Told) -> bool {
+    match answer {
+        Symbolized::Sym(symbol) => is_symbol(symbol, told),
+        Symbolized::Unknown(reason) => told.1 == Some(*reason),
     }
 }
 
 /// Whether the answers are what is told.
 fn are_told(answers: &[Symbolized<'_>], told: &[Told]) -> bool {
-    for place in 0..answers.len() {
-        if !is_told(&answers[place], told, place) {
+    if answers.len() != told.len() {
+        return false;
+    }
+    for place in 0..told.len() {
+        if !is_told(&answers[place], &told[place]) {
             return false;
         }
     }
-    answers.len() == told.len()
+    true
 }
 
 /// Whether the only address that was looked up is answered by what is told.
 fn is_looked_up(alloc: Global, lookups: &Lookups<'_>, told: &[Told]) -> bool {
-    if lookups.len() != 1 {
+    if lookups.len() != 1 || told.is_empty() {
         return false;
     }
     match lookups.answer(alloc, 0) {
-        Ok(answer) => is_told(&answer, told, 0),
+        Ok(answer) => is_told(&answer, &told[0]),
         Err(_) => false,
     }
 }
@@ -90,7 +87,7 @@ fn single(
     told: &[Told],
 ) -> Result<bool> {
     let answer = symbolizer.symbolize_single(alloc, files, src, input)?;
-    Ok(is_told(&answer, told, 0))
+    Ok(!told.is_empty() && is_told(&answer, &told[0]))
 }
 
 /// Whether a batch is, with a count of its steps.
@@ -145,13 +142,13 @@ pub(crate) fn ask(
         return Ok(false);
     };
     match call {
-        Call::Batch => batch(alloc, symbolizer, files, src, input(kind, addrs), told),
+        Call::Batch => batch(alloc, symbolizer, files, src, kind.with(addrs), told),
         Call::Counted => counted::<Brand>(
             alloc,
             symbolizer,
             files,
             src,
-            input(kind, addrs),
+            kind.with(addrs),
             told,
             Blank::new(1),
         ),
@@ -162,12 +159,12 @@ pub(crate) fn ask(
                 symbolizer,
                 files,
                 src,
-                input(kind, alone),
+                kind.with(alone),
                 told,
                 Blank::new(1),
             )
         }
-        Call::Single => single(alloc, symbolizer, files, src, input(kind, *first), told),
-        Call::Empty => batch(alloc, symbolizer, files, src, input(kind, &[]), &[]),
+        Call::Single => single(alloc, symbolizer, files, src, kind.with(*first), told),
+        Call::Empty => batch(alloc, symbolizer, files, src, kind.with(&[]), &[]),
     }
 }

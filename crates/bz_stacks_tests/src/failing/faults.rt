@@ -60,15 +60,18 @@ static FAULTS: [(&[u64], &[Step]); 3] = [
 
 #[test]
 fn a_call_on_a_file_fails_by_each_look(rt: HostRuntime) {
-    for file in 0..FILES.len() {
-        for call in 0..CALLS.len() {
-            for row in 0..FAULTS.len() {
-                let (looks, steps) = FAULTS[row];
+    let files = &FILES;
+    let calls = &CALLS;
+    let faults = &FAULTS;
+    for file in 0..files.len() {
+        for call in 0..calls.len() {
+            for row in 0..faults.len() {
+                let (looks, steps) = faults[row];
                 for look in looks {
                     assert!(rt;
                         hold(
                             rt.alloc(),
-                            (FILES[file], &CALLS[call], *look, NO_CAUSE),
+                            (files[file], &calls[call], *look, NO_CAUSE),
                             steps
                         ),
                         "file {file}, call {call}, row {row}, look {look}"

@@ -207,12 +207,23 @@ fn hold_over(
     true
 }
 
+/// Whether they can be done, or hold, over a new symbolizer.
+fn hold_with(
+    alloc: Global,
+    files: &mut MemFiles,
+    src: &Source<'_>,
+    case: Case,
+    steps: &[Step],
+) -> bool {
+    let mut symbolizer = Symbolizer::new(alloc);
+    hold_over(alloc, &mut symbolizer, files, src, case, steps)
+}
+
 /// Whether each step of the case can be done, or holds.
 pub(crate) fn hold(alloc: Global, case: Case, steps: &[Step]) -> bool {
-    let Ok(src) = source(alloc, case.0) else {
-        return false;
-    };
     let mut files = MemFiles::new(alloc, 0);
-    let mut symbolizer = Symbolizer::new(alloc);
-    hold_over(alloc, &mut symbolizer, &mut files, &src, case, steps)
+    match source(alloc, case.0) {
+        Ok(src) => hold_with(alloc, &mut files, &src, case, steps),
+        Err(_) => false,
+    }
 }

@@ -19,8 +19,8 @@ const ALL: Config = Config {
 
 /// Files with this text at the path alone.
 fn files_of(alloc: Global, path: &str, text: &str) -> Result<MemFiles> {
-    let mut files = MemFiles::new(alloc, 1);
     let bytes = Vec::from_slice(alloc, text.as_bytes())?;
+    let mut files = MemFiles::new(alloc, 1);
     files.put(alloc, path, bytes)?;
     Ok(files)
 }
@@ -51,8 +51,8 @@ fn serves_a_batch(alloc: Global) -> Result<bool> {
 
 /// Whether a stack is folded.
 fn folds_a_stack(alloc: Global) -> Result<bool> {
-    let mut files = files_of(alloc, "/s.sym", "FUNC 1 1 0 a;b\n")?;
     let mut input = MemIn::new(Vec::from_slice(alloc, "1 4\n".as_bytes())?);
+    let mut files = files_of(alloc, "/s.sym", "FUNC 1 1 0 a;b\n")?;
     let mut output = MemOut::new(alloc);
     let ended = run_stacks(alloc, "/s.sym", ALL, &mut input, &mut output, &mut files);
     Ok(ended == Status::Done && output.written() == "a:b 4\n".as_bytes())
@@ -60,8 +60,8 @@ fn folds_a_stack(alloc: Global) -> Result<bool> {
 
 /// Whether a frame is answered.
 fn answers_a_frame(alloc: Global) -> Result<bool> {
-    let mut files = files_of(alloc, "/r/bar/AA/bar.sym", "FUNC 1000 30 10 f\n")?;
     let mut input = MemIn::new(Vec::from_slice(alloc, "bar AA 1010\n".as_bytes())?);
+    let mut files = files_of(alloc, "/r/bar/AA/bar.sym", "FUNC 1000 30 10 f\n")?;
     let mut output = MemOut::new(alloc);
     let ended = run_frames(
         alloc,

@@ -1,10 +1,9 @@
 //! Inputs of requests.
 
-use crate::runs::Edit::{Bytes, Next, Remove, Text};
-use crate::runs::{FIRST_RUN, Row};
-use crate::words::{BARE, SOURCE, SOURCES, WHOLE};
 use bz_samples::PERF_FUNCTION;
 use bz_symq::Status;
+use symq_runs::Edit::{Bytes, Next, Remove, Text};
+use symq_runs::{BARE_ANSWER, FIRST_RUN, Row, SOURCE, SOURCES, WHOLE_ANSWER};
 
 /// A run over requests, none here.
 const SERVED: Row = Row {
@@ -168,13 +167,13 @@ pub(crate) static ROWS: [Row; 18] = [
     },
     Row {
         input: "breakpad /s.sym 1010",
-        written: WHOLE,
+        written: WHOLE_ANSWER,
         ..SERVED
     },
     Row {
         lines: &[&["--no-code-info", "serve"]],
         input: "\r\nsingle breakpad /s.sym 0x1010\r\n",
-        written: BARE,
+        written: BARE_ANSWER,
         ..SERVED
     },
     Row {
@@ -204,7 +203,7 @@ pub(crate) static ROWS: [Row; 18] = [
     },
     Row {
         faults: (0, 0, 2),
-        written: WHOLE,
+        written: WHOLE_ANSWER,
         ..FAULT
     },
     Row {
@@ -213,7 +212,7 @@ pub(crate) static ROWS: [Row; 18] = [
     },
     Row {
         faults: (3, 0, 0),
-        written: WHOLE,
+        written: WHOLE_ANSWER,
         ..FAULT
     },
 ];

@@ -1,9 +1,9 @@
 //! Stacks of a profile, by the words `stacks PATH`.
 
-use crate::runs::Edit::{Deny, Text};
-use crate::runs::{FIRST_RUN, Row, USAGE};
 use bz_samples::BREAKPAD_CALLS;
 use bz_symq::Status;
+use symq_runs::Edit::{Deny, Text};
+use symq_runs::{FIRST_RUN, Row, USAGE};
 
 /// Stacks over inlined calls inside one another, and over a function whose name would end a frame.
 const STACKS: Row = Row {

@@ -2,8 +2,7 @@
 
 use crate::files::file_of;
 use bz_breakpad::SymbolFile;
-use bz_convert::ConvertError;
-use bz_converting::convert;
+use bz_convert::{ConvertError, convert};
 use std::alloc::Global;
 
 /// A file's text, and what is said of its first fault: nothing where it has none. Each cause once;

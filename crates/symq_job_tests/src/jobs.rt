@@ -102,7 +102,8 @@ fn ends_so(alloc: Global, job: &Job) -> bool {
 
 #[test]
 fn counts_what_generated_jobs_are_answered_or_ends_by_a_fault(rt: HostRuntime) {
-    for index in 0..JOBS.len() {
-        assert!(rt; ends_so(rt.alloc(), &JOBS[index]), "row {index}");
+    let jobs = &JOBS;
+    for index in 0..jobs.len() {
+        assert!(rt; ends_so(rt.alloc(), &jobs[index]), "row {index}");
     }
 }

@@ -2,8 +2,7 @@
 
 use crate::files::file_of;
 use bz_base::{CodeInfo, Error, FindSymOpts, ResolvedSym, Symbolize};
-use bz_convert::ConvertError;
-use bz_converting::convert;
+use bz_convert::{ConvertError, convert};
 use bz_gsym::GsymTable;
 use bz_samples::{BREAKPAD_KINDS, GSYM_CONVERTED};
 use std::alloc::Global;
@@ -13,8 +12,10 @@ use std::alloc::Global;
 const CALLS: &[u8] =
     b"FILE 7 p.c\nFILE 15 o.c\nFILE 4 m.c\nFILE 8 i2.c\nFUNC 1000 30 10 outer_func()\nINLINE_ORIGIN 1 inner_func_2()\nINLINE_ORIGIN 2 mid_func()\nINLINE_ORIGIN 3 inner_func_1()\nINLINE 1 17 4 1 1010 10\nINLINE 0 60 15 2 1000 20\nINLINE 1 12 4 3 1000 10\nINLINE 1 17 4 1 1010 10\nINLINE 0 9 15 2 1028 0\n1000 10 42 7\n1010 10 52 8\n1020 10 62 15\n";
 
-/// Addresses, and what the converted file answers there: each name with its site, the outermost first.
-static ANSWERS: [(u64, &str); 5] = [
+/// An address, and what the converted file answers there: each name with its site, the outermost first.
+type Row = (u64, &'static str);
+
+static ANSWERS: [Row; 5] = [
     (
         0x1000,
         "outer_func() o.c:60; mid_func() m.c:12; inner_func_1() p.c:42; ",
@@ -72,25 +73,24 @@ fn is_said(alloc: Global, table: &GsymTable, addr: u64, expected: &str) -> bool 
     }
 }
 
-/// How many addresses a table answers so, before one that it doesn't.
-fn count_until_failure(alloc: Global, table: &GsymTable) -> usize {
-    let answers = &ANSWERS;
-    for index in 0..answers.len() {
-        let (addr, expected) = answers[index];
+/// How many rows' addresses a table answers so, before one that it doesn't.
+fn count_until_failure(alloc: Global, table: &GsymTable, rows: &[Row]) -> usize {
+    for index in 0..rows.len() {
+        let (addr, expected) = rows[index];
         if !is_said(alloc, table, addr, expected) {
             return index;
         }
     }
-    ANSWERS.len()
+    rows.len()
 }
 
 /// The same of the file that the calls are converted to.
-fn count_answers(alloc: Global) -> usize {
+fn count_answers(alloc: Global, rows: &[Row]) -> usize {
     let Ok(Ok(bytes)) = converted(alloc, CALLS) else {
         return 0;
     };
     match GsymTable::from_bytes(bytes) {
-        Ok(table) => count_until_failure(alloc, &table),
+        Ok(table) => count_until_failure(alloc, &table, rows),
         Err(_) => 0,
     }
 }
@@ -106,6 +106,7 @@ fn converts_a_line(alloc: Global) -> bool {
 #[test]
 fn files_are_converted(rt: HostRuntime) {
     assert!(rt; converts_a_line(rt.alloc()), "a line");
-    let answered = count_answers(rt.alloc());
-    assert!(rt; answered == ANSWERS.len(), "calls: row {answered}");
+    let rows = &ANSWERS;
+    let answered = count_answers(rt.alloc(), rows);
+    assert!(rt; answered == rows.len(), "calls: row {answered}");
 }

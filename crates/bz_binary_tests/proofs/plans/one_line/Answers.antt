@@ -1,6 +1,6 @@
 use Rattle.std.proofs.Common.{ap, length, map, refl}
-use Rattle.bz_text_tests.proofs.PlanLemmas.{one_line_is, pushed}
-use Rattle.bz_text_tests.proofs.plans.one_line.Goals as goal
+use Rattle.bz_binary_tests.proofs.PlanLemmas.{one_line_is, pushed}
+use Rattle.bz_binary_tests.proofs.plans.one_line.Goals as goal
 
 pub returns : goal.returns
 returns c =

@@ -1,6 +1,6 @@
 use Rattle.std.proofs.Common.{◌≡◌, refl}
 use Rattle.bz_symbolize.specs.declared.source.Source.TheVariants as sources
-use Rattle.bz_symbolize_tests.proofs.calling.answers_in.Goals as goal
+use Rattle.bz_process_tests.proofs.calling.answers_in.Goals as goal
 
 -- a dispatcher that gives no resolver leaves the answers to the definitions
 pub returns : goal.returns

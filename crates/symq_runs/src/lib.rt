@@ -1,13 +1,16 @@
-//! Runs of the program over files in memory: rows tell what runs are given, and how they are to end.
+//! Runs of the program over files in memory, for tests. Rows tell what runs are given, and how they are
+//! to end.
+#![tactic(auto)]
 
 use bz_base::Result;
 use bz_files::{MemFiles, MemIn, MemOut};
 use bz_run::run;
+use bz_samples::ELF_FUNCTION;
 use bz_symq::{Command, Product, Status, run_command};
 use std::alloc::Global;
 
 /// An edit of files in memory.
-pub(crate) enum Edit {
+pub enum Edit {
     /// The text is put at the path.
     Text(&'static str, &'static str),
     /// The bytes are put at the path.
@@ -23,39 +26,39 @@ pub(crate) enum Edit {
 use Edit::{Bytes, Deny, Next, Remove, Text};
 
 /// What runs are given, and how each of them is to end.
-pub(crate) struct Row {
+pub struct Row {
     /// The words of each run.
-    pub(crate) lines: &'static [&'static [&'static str]],
+    pub lines: &'static [&'static [&'static str]],
     /// The path that is converted by a command in place of words, if it isn't empty.
-    pub(crate) converted: &'static str,
+    pub converted: &'static str,
     /// What makes the files, in two parts, and the process that they are seen by.
-    pub(crate) edits: &'static [Edit],
-    pub(crate) later: &'static [Edit],
-    pub(crate) own_pid: u32,
+    pub edits: &'static [Edit],
+    pub later: &'static [Edit],
+    pub own_pid: u32,
     /// How many empty lines come before the input.
-    pub(crate) blanks: usize,
-    pub(crate) input: &'static str,
+    pub blanks: usize,
+    pub input: &'static str,
     /// The calls of files, input and output that fail, counted from 1; 0 where none does.
-    pub(crate) faults: (u64, u64, u64),
-    pub(crate) status: Status,
-    pub(crate) written: &'static str,
+    pub faults: (u64, u64, u64),
+    pub status: Status,
+    pub written: &'static str,
     /// Whether all of it is written, or a part from its beginning on.
-    pub(crate) whole: bool,
+    pub whole: bool,
     /// How many files are read, where that is looked at.
-    pub(crate) opens: Option<u64>,
+    pub opens: Option<u64>,
 }
 
 /// A Breakpad file of one function.
 const FIRST: &str = "MODULE Linux x86 ffff0000 bar\nFUNC 1000 30 10 another func\n";
 
 /// An address in the function, and the one at its end.
-pub(crate) const ADDRESSES: &str = "1010\n1030\n";
+pub const ADDRESSES: &str = "1010\n1030\n";
 
 /// How the program is called.
-pub(crate) const USAGE: &str = "usage: symq [OPTION] KIND [ARG]...\n";
+pub const USAGE: &str = "usage: symq [OPTION] KIND [ARG]...\n";
 
 /// A run over the first file for no addresses.
-pub(crate) const FIRST_RUN: Row = Row {
+pub const FIRST_RUN: Row = Row {
     lines: &[&["breakpad", "/a.sym"]],
     converted: "",
     edits: &[Text("/a.sym", FIRST), Deny("/denied")],
@@ -70,8 +73,31 @@ pub(crate) const FIRST_RUN: Row = Row {
     opens: None,
 };
 
+/// A Breakpad file of one function with lines and an inlined call.
+pub const SOURCE: &str =
+    "MODULE Linux x86 ffff0000 bar\nFILE 53 bar.c\nINLINE_ORIGIN 1 a\nFUNC 1000 30 10 another func\nINLINE 0 5 53 1 1000 8 1010 8\n1000 30 7 53\n";
+
+/// The Breakpad file at two paths, one of which looks like a flag, and a process with the ELF file that
+/// it maps.
+pub const SOURCES: &[Edit] = &[
+    Text("/s.sym", SOURCE),
+    Text("--no-inlined", SOURCE),
+    Bytes("/bin/e", &ELF_FUNCTION),
+    Text(
+        "/proc/7/maps",
+        "400000-401000 r-xp 00000000 08:01 11 /bin/e\n",
+    ),
+];
+
+/// An answer of the Breakpad file.
+pub const WHOLE_ANSWER: &str =
+    "0x1010: another func+0x10 start 0x1000 size 0x30 module bar at bar.c:5\n  a at bar.c:7\n";
+
+/// The same without code info.
+pub const BARE_ANSWER: &str = "0x1010: another func+0x10 start 0x1000 size 0x30 module bar at -\n";
+
 /// Puts the bytes at the path.
-pub(crate) fn put(alloc: Global, files: &mut MemFiles, path: &str, bytes: &[u8]) -> Result<()> {
+fn put(alloc: Global, files: &mut MemFiles, path: &str, bytes: &[u8]) -> Result<()> {
     files.put(alloc, path, Vec::from_slice(alloc, bytes)?)?;
     Ok(())
 }
@@ -177,7 +203,7 @@ fn ends_by(
 }
 
 /// Whether the run of the line over this input ends as the row says, with this written.
-pub(crate) fn ends_on(alloc: Global, line: &[&str], row: &Row, input: &str, written: &str) -> bool {
+pub fn ends_on(alloc: Global, line: &[&str], row: &Row, input: &str, written: &str) -> bool {
     let Ok(words) = words_of(alloc, line) else {
         return false;
     };
@@ -200,11 +226,27 @@ pub(crate) fn ends_on(alloc: Global, line: &[&str], row: &Row, input: &str, writ
 }
 
 /// Whether each run of the row ends as it says.
-pub(crate) fn ends_so(alloc: Global, row: &Row) -> bool {
+fn ends_so(alloc: Global, row: &Row) -> bool {
     for line in row.lines {
         if !ends_on(alloc, line, row, row.input, row.written) {
             return false;
         }
     }
     true
+}
+
+/// A table of runs, and what it is about.
+pub type Table = (&'static str, &'static [Row]);
+
+/// The first table of which some row has a run that doesn't end as it says, and that row. The name
+/// is empty where there is none.
+pub fn first_to_fail(alloc: Global, tables: &[Table]) -> (&'static str, usize) {
+    for (name, rows) in tables {
+        for index in 0..rows.len() {
+            if !ends_so(alloc, &rows[index]) {
+                return (*name, index);
+            }
+        }
+    }
+    ("", 0)
 }

@@ -1,9 +1,9 @@
 //! Frames of a crash, by the words `frames ROOT`.
 
-use crate::runs::Edit::{Bytes, Deny, Text};
-use crate::runs::{FIRST_RUN, Row, USAGE};
 use bz_samples::BREAKPAD_KINDS;
 use bz_symq::Status;
+use symq_runs::Edit::{Bytes, Deny, Text};
+use symq_runs::{FIRST_RUN, Row, USAGE};
 
 /// A Breakpad file of a function with an inlined call.
 const CALLS: &str =

@@ -1,6 +1,6 @@
 //! Runs, and what standard error says of them.
 
-use crate::runs::put;
+use crate::words::words_of;
 use bz_base::Result;
 use bz_files::{MemFiles, Stamp};
 use bz_symq::Status;
@@ -113,14 +113,20 @@ static RUNS: [Runs; 8] = [
     ),
 ];
 
-/// A folder has itself in it; a long file has its length in its stamp.
-fn files_of(alloc: Global) -> Result<MemFiles> {
-    let mut files = MemFiles::new(alloc, 7);
-    put(alloc, &mut files, "/good", b"FUNC 1 2 3 x\n1 2 3 4\n")?;
-    put(alloc, &mut files, "/bad", b"FUNC 1 2 3 x\n1 2 3 4\n1 2 3\n")?;
-    put(alloc, &mut files, "/cut", b"FUNC 1 2 3 x\n1 2 3 4")?;
-    put(alloc, &mut files, "/empty", b"")?;
-    put(alloc, &mut files, "/folder/.", b"")?;
+/// Files by their texts; a folder has itself in it.
+static FILES: [(&str, &[u8]); 5] = [
+    ("/good", b"FUNC 1 2 3 x\n1 2 3 4\n"),
+    ("/bad", b"FUNC 1 2 3 x\n1 2 3 4\n1 2 3\n"),
+    ("/cut", b"FUNC 1 2 3 x\n1 2 3 4"),
+    ("/empty", b""),
+    ("/folder/.", b""),
+];
+
+/// Puts them all, one that may not be read, and a long one, which has its length in its stamp.
+fn put_files(alloc: Global, files: &mut MemFiles) -> Result<()> {
+    for (path, text) in &FILES {
+        files.put(alloc, path, Vec::from_slice(alloc, text)?)?;
+    }
     files.deny(alloc, "/denied")?;
     let stamp = Stamp {
         dev: 1,
@@ -130,16 +136,7 @@ fn files_of(alloc: Global) -> Result<MemFiles> {
         mtime_nsec: 1,
     };
     files.put_as(alloc, "/long", stamp, Vec::new(alloc))?;
-    Ok(files)
-}
-
-/// The words, owned.
-fn words_of(alloc: Global, line: &str) -> Result<Vec<String>> {
-    let mut words = Vec::new(alloc);
-    for word in line.split(' ') {
-        words.push(String::from_str(alloc, word)?)?;
-    }
-    Ok(words)
+    Ok(())
 }
 
 /// Whether this is said of a run that ended so.
@@ -165,7 +162,7 @@ fn is_said(
 /// The words of the first run of which something else is said; nothing where there is none.
 fn first_unsaid(alloc: Global, files: &mut MemFiles, runs: &Runs) -> &'static str {
     for (line, start) in runs.2 {
-        let Ok(words) = words_of(alloc, line) else {
+        let Some(words) = words_of(alloc, line) else {
             return *line;
         };
         if !is_said(alloc, files, words.as_slice(), runs, start) {
@@ -177,16 +174,18 @@ fn first_unsaid(alloc: Global, files: &mut MemFiles, runs: &Runs) -> &'static st
 
 /// The same over these files.
 fn first_of_unsaid(alloc: Global, runs: &Runs) -> &'static str {
-    match files_of(alloc) {
-        Ok(mut files) => first_unsaid(alloc, &mut files, runs),
-        Err(_) => "files",
+    let mut files = MemFiles::new(alloc, 7);
+    if put_files(alloc, &mut files).is_err() {
+        return "files";
     }
+    first_unsaid(alloc, &mut files, runs)
 }
 
 #[test]
 fn says_what_a_run_lacks_or_nothing(rt: HostRuntime) {
-    for index in 0..RUNS.len() {
-        let unsaid = first_of_unsaid(rt.alloc(), &RUNS[index]);
+    let all = &RUNS;
+    for index in 0..all.len() {
+        let unsaid = first_of_unsaid(rt.alloc(), &all[index]);
         assert!(rt; unsaid.is_empty(), "runs {index}: {unsaid}");
     }
 }
@@ -203,21 +202,27 @@ static NAMED: [(&str, &str); 7] = [
 ];
 
 /// Whether the words name that file.
-fn is_named(alloc: Global, words: &str, file: &str) -> Result<bool> {
-    let words = words_of(alloc, words)?;
-    match named_file(alloc, words.as_slice())? {
-        Some(path) => Ok(path.as_str() == file),
-        None => Ok(file.is_empty()),
+fn is_named(alloc: Global, words: &[String], file: &str) -> bool {
+    match named_file(alloc, words) {
+        Ok(Some(path)) => path.as_str() == file,
+        Ok(None) => file.is_empty(),
+        Err(_) => false,
+    }
+}
+
+/// The same of the words of a line.
+fn names(alloc: Global, line: &str, file: &str) -> bool {
+    match words_of(alloc, line) {
+        Some(words) => is_named(alloc, words.as_slice(), file),
+        None => false,
     }
 }
 
 #[test]
 fn names_the_breakpad_file_that_is_read_or_none(rt: HostRuntime) {
-    for index in 0..NAMED.len() {
-        let (words, file) = NAMED[index];
-        assert!(rt;
-            is_named(rt.alloc(), words, file) == Ok(true),
-            "row {index}"
-        );
+    let named = &NAMED;
+    for index in 0..named.len() {
+        let (line, file) = named[index];
+        assert!(rt; names(rt.alloc(), line, file), "row {index}");
     }
 }
