@@ -1,6 +1,6 @@
 //! Source files, each with the index that it is listed at.
 
-ghost use Rattle.std.specs.Prelude.{◌≡◌, ℕ, List, [], Some, slice_get, IfOk, OnOk};
+ghost use Rattle.std.specs.Prelude.{◌≡◌, ℕ, List, [], Some, slice_get, IfOk, OnErr, OnOk};
 ghost use Rattle.bz_gsym_layout.specs.Listed.{with_one};
 ghost use Rattle.bz_gsym_layout.specs.Listing.{HasFileIndexes, same_file};
 
@@ -32,16 +32,18 @@ impl Sources {
     /// The index of a source file, which is listed if it wasn't used before.
     pub fn index_of(&mut self, file: SourceFile) -> Result<usize, AllocError>
         ensures listed { OnOk result (HasFileIndexes self.old → self.new.listed.items ≡ with_one same_file self.old.listed.items file) }
-        ensures files { OnOk result (HasFileIndexes self.old → HasFileIndexes self.new) }
+        ensures files { HasFileIndexes self.old → HasFileIndexes self.new }
         ensures index { IfOk result (λ index. HasFileIndexes self.old → slice_get self.new.listed.items index ≡ Some file) }
+        ensures err { OnErr result (self.new.listed.items ≡ self.old.listed.items) }
     {
         let key = (file.dir, file.name);
         if let Some(index) = self.indexes.get(&key) {
             return Ok(*index);
         }
         let index = self.listed.len();
-        self.listed.push(file)?;
+        self.listed.reserve(1)?;
         self.indexes.insert(key, index)?;
+        self.listed.push(file)?;
         Ok(index)
     }
 }

@@ -1,6 +1,6 @@
 //! Texts, each with the index that it is listed at.
 
-ghost use Rattle.std.specs.Prelude.{◌≡◌, ◌++◌, ◌∷◌, ℕ, List, [], Some, slice_get, IfOk, OnOk};
+ghost use Rattle.std.specs.Prelude.{◌≡◌, ◌++◌, ◌∷◌, ℕ, List, [], Some, slice_get, IfOk, OnErr, OnOk};
 ghost use Rattle.bz_gsym_layout.specs.Listing.{AreTexts, listed_texts};
 
 use std::alloc::{AllocError, Global};
@@ -29,13 +29,15 @@ impl<'a> Texts<'a> {
     pub fn index_of(&mut self, text: &'a str) -> Result<usize, AllocError>
         ensures texts { OnOk result ((used : List (List ℕ)) → AreTexts used self.old → AreTexts (used ++ text.now ∷ []) self.new) }
         ensures index { IfOk result (λ index. (used : List (List ℕ)) → AreTexts used self.old → slice_get (listed_texts self.new) index ≡ Some text.now) }
+        ensures err { OnErr result ((used : List (List ℕ)) → AreTexts used self.old → AreTexts used self.new) }
     {
         if let Some(index) = self.indexes.get(&text) {
             return Ok(*index);
         }
         let index = self.listed.len();
-        self.listed.push(text)?;
+        self.listed.reserve(1)?;
         self.indexes.insert(text, index)?;
+        self.listed.push(text)?;
         Ok(index)
     }
 }

@@ -1,4 +1,4 @@
-use Rattle.std.proofs.Common.{arith, sym, ◌∙◌}
+use Rattle.std.proofs.Common.{[], ◌∷◌, ◌++◌, ap, arith, sym, ◌∙◌}
 use Rattle.std.specs.Str.{bytes_eq}
 use Rattle.bz_gsym_layout.specs.Listing.{listed_texts}
 use Rattle.bz_gsym_layout.proofs.ListedLemmas.{index_at}
@@ -16,9 +16,9 @@ returns-in-Some-clause-index c used are =
 
 pub returns-clause-texts : goal.returns-clause-texts
 returns-clause-texts c used are =
-    texts_inserted used c.args.self.now are c.args.text (record { listed = c.push.new.self; indexes = c.insert.new.self }) c.len-index.result (omega (arith, c.len-index.ensures)) c.in_ok-push.ensures.items
+    texts_inserted used c.args.self.now are c.args.text (record { listed = c.push.new.self; indexes = c.insert.new.self }) c.len-index.result (omega (arith, c.len-index.ensures)) (c.in_ok-push.ensures.items ∙ ap (λ l. l ++ c.args.text ∷ []) c.reserve.ensures.items)
     (sym c.in_default.ensures.value) c.in_ok-insert.ensures.updates.0
 
 pub returns-clause-index : goal.returns-clause-index
 returns-clause-index c used are =
-    text_inserted_at used c.args.self.now are c.args.text (record { listed = c.push.new.self; indexes = c.insert.new.self }) c.len-index.result (omega (arith, c.len-index.ensures)) c.in_ok-push.ensures.items
+    text_inserted_at used c.args.self.now are c.args.text (record { listed = c.push.new.self; indexes = c.insert.new.self }) c.len-index.result (omega (arith, c.len-index.ensures)) (c.in_ok-push.ensures.items ∙ ap (λ l. l ++ c.args.text ∷ []) c.reserve.ensures.items)
