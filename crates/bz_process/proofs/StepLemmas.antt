@@ -22,7 +22,7 @@ use Rattle.bz_process.specs.Process.{Said, asks_perf_map, at_address, by_asked, 
 use Rattle.bz_process.specs.ProcessCall.{Change, LookElf, LookPerfMap, Remember, IsTold, Reaches, after_changes, changed}
 use Rattle.bz_process.specs.Remembered.{Remembered}
 use Rattle.bz_process.proofs.ProcessLemmas.{reaches_both, reaches_same}
-use Rattle.bz_process.proofs.ReachLemmas.{reached_coherent}
+use Rattle.bz_process.proofs.ReachLemmas.{used_reached}
 
 -- a look leaves a consistent cache
 module _ (test : List ℕ → Option Error) (c : Cache) (path : List ℕ) (well : Consistent test c) where
@@ -73,11 +73,14 @@ module _ (world : World) where
   with_all cache coherent w has = subst (Coherent cache.kept) (only_one world w has) coherent
 
   -- what coheres goes on to
-  pub coheres_after : (own : ℕ) (old now : ProcessCaches) → Reaches own (Some world) old now → CoheresIn world old → CoheresIn world now
-  coheres_after own old now reached coheres =
+  pub coheres_after : {uses_elf uses_perf_maps : Type 0} (own : ℕ) (old now : ProcessCaches) → Reaches own (Some world) old now → CoheresIn uses_elf uses_perf_maps world old → CoheresIn uses_elf uses_perf_maps world now
+  coheres_after {uses_elf} {uses_perf_maps} own old now reached coheres =
       let well : AreConsistent now = subst AreConsistent (sym reached.leads) (well_changes reached.changes old (record { elf = coheres.elf; perf_maps = coheres.perf_maps })) in
-      let all = reached_coherent own (world ∷ []) (agree_alone coheres.agrees) world one_of old now reached (record { elf = with_all old.elf coheres.elf_coheres; perf_maps = with_all old.perf_maps coheres.perf_maps_cohere }) in
-      record { elf = well.elf; perf_maps = well.perf_maps; elf_coheres = all.elf world one_of; perf_maps_cohere = all.perf_maps world one_of; agrees = coheres.agrees }
+      let used = used_reached own (world ∷ []) (agree_alone coheres.agrees) world one_of uses_elf uses_perf_maps old now reached (record {
+        elf = λ uses. with_all old.elf (coheres.elf_coheres uses);
+        perf_maps = λ uses. with_all old.perf_maps (coheres.perf_maps_cohere uses);
+      }) in
+      record { elf = well.elf; perf_maps = well.perf_maps; elf_coheres = λ uses. used.elf uses world one_of; perf_maps_cohere = λ uses. used.perf_maps uses world one_of; agrees = coheres.agrees }
 
 module _ (world : World) (asked : Asked) where
   abbrev Reached : ProcessCaches → ProcessCaches → Type 0

@@ -91,34 +91,49 @@ module _ (own : ℕ) (world : World) (pid : Pid) (old now : ProcessCaches) where
   pub same_recall : IsAsTold own world pid (value_at pid_cmp old.ids pid) (value_at pid_cmp now.ids pid) → (remember pid own world now).answer ≡ (remember pid own world old).answer
   same_recall told = known_same (value_at pid_cmp old.ids pid) (value_at pid_cmp now.ids pid) told
 
+-- an address that lies in a mapped file gives this, and one in a mapping without a name where perf
+-- maps are asked
+abbrev pub InFile : Type 0 → List Mapping → ℕ → Type 0
+InFile X mappings addr = (mapping : Mapping) (maps_file symbolic_path : List ℕ) → owner_of mappings addr ≡ Some mapping → mapping.name ≡ Some (File maps_file symbolic_path) → X
+
+abbrev pub InNoFile : Type 0 → Asked → List Mapping → ℕ → Type 0
+InNoFile X asked mappings addr = asked.perf_map ≡ true → (mapping : Mapping) → owner_of mappings addr ≡ Some mapping → mapping.name ≡ None → X
+
 -- what answers in view is the same after looks and remembered ids
-module _ (asked : Asked) (world : World) (old now : ProcessCaches) (coheres_old : CoheresIn world old) (coheres_now : CoheresIn world now) (over : AreLookedOver asked.own world old now) where
-  elf_same : (path : List ℕ) → view now.elf world path ≡ view old.elf world path
-  elf_same path = same_view world path elf.format_test old.elf now.elf coheres_old.elf coheres_now.elf coheres_now.elf_coheres over.elf
+module _ {uses_elf uses_perf_maps : Type 0} (asked : Asked) (world : World) (old now : ProcessCaches) (coheres_old : CoheresIn uses_elf uses_perf_maps world old) (coheres_now : CoheresIn uses_elf uses_perf_maps world now)
+    (over : AreLookedOver asked.own world old now) where
+  elf_same : uses_elf → (path : List ℕ) → view now.elf world path ≡ view old.elf world path
+  elf_same used path = same_view world path elf.format_test old.elf now.elf coheres_old.elf coheres_now.elf (coheres_now.elf_coheres used) over.elf
 
-  perf_map_same : (addr : ℕ) (known : Result Remembered Error) → perf_map_in_view asked world now addr known ≡ perf_map_in_view asked world old addr known
-  perf_map_same addr (Ok known) =
-      ap (shown_answer (asks_perf_map addr)) (same_view world known.perf_map perf.format_test old.perf_maps now.perf_maps coheres_old.perf_maps coheres_now.perf_maps coheres_now.perf_maps_cohere over.perf_maps)
-  perf_map_same addr (Err e) = refl
+  perf_map_same : uses_perf_maps → (addr : ℕ) (known : Result Remembered Error) → perf_map_in_view asked world now addr known ≡ perf_map_in_view asked world old addr known
+  perf_map_same used addr (Ok known) =
+      ap (shown_answer (asks_perf_map addr)) (same_view world known.perf_map perf.format_test old.perf_maps now.perf_maps coheres_old.perf_maps coheres_now.perf_maps (coheres_now.perf_maps_cohere used) over.perf_maps)
+  perf_map_same used addr (Err e) = refl
 
-  unnamed_same : (perf_map : Bool) (addr : ℕ) → unnamed_in_view asked world now perf_map addr ≡ unnamed_in_view asked world old perf_map addr
-  unnamed_same true addr = ap or_unknown (ap (perf_map_in_view asked world now addr) (same_recall asked.own world asked.pid old now (over.ids asked.pid)) ∙ perf_map_same addr (remember asked.pid asked.own world old).answer)
-  unnamed_same false addr = refl
+  unnamed_same : (perf_map : Bool) → (perf_map ≡ true → uses_perf_maps) → (addr : ℕ) → unnamed_in_view asked world now perf_map addr ≡ unnamed_in_view asked world old perf_map addr
+  unnamed_same true used addr =
+      ap or_unknown (ap (perf_map_in_view asked world now addr) (same_recall asked.own world asked.pid old now (over.ids asked.pid)) ∙ perf_map_same (used refl) addr (remember asked.pid asked.own world old).answer)
+  unnamed_same false used addr = refl
 
-  mapping_same : (mapping : Mapping) (addr : ℕ) (name : Option Name) → mapping_in_view asked world now mapping addr name ≡ mapping_in_view asked world old mapping addr name
-  mapping_same mapping addr None = unnamed_same asked.perf_map addr
-  mapping_same mapping addr (Some (Component text)) = refl
-  mapping_same mapping addr (Some (File maps_file symbolic_path)) = ap (shown_answer (asks_elf symbolic_path (offset_in mapping addr))) (elf_same (cond asked.map_files maps_file symbolic_path))
+  mapping_same : (mapping : Mapping) (addr : ℕ) (name : Option Name) → ((maps_file symbolic_path : List ℕ) → name ≡ Some (File maps_file symbolic_path) → uses_elf) → (name ≡ None → asked.perf_map ≡ true → uses_perf_maps) →
+      mapping_in_view asked world now mapping addr name ≡ mapping_in_view asked world old mapping addr name
+  mapping_same mapping addr None file no_name = unnamed_same asked.perf_map (no_name refl) addr
+  mapping_same mapping addr (Some (Component text)) file no_name = refl
+  mapping_same mapping addr (Some (File maps_file symbolic_path)) file no_name =
+      ap (shown_answer (asks_elf symbolic_path (offset_in mapping addr))) (elf_same (file maps_file symbolic_path refl) (cond asked.map_files maps_file symbolic_path))
 
-  owner_same : (addr : ℕ) (owner : Option Mapping) → owner_in_view asked world now addr owner ≡ owner_in_view asked world old addr owner
-  owner_same addr None = refl
-  owner_same addr (Some mapping) = mapping_same mapping addr mapping.name
+  owner_same : (mappings : List Mapping) (addr : ℕ) → InFile uses_elf mappings addr → InNoFile uses_perf_maps asked mappings addr → (owner : Option Mapping) → owner_of mappings addr ≡ owner →
+      owner_in_view asked world now addr owner ≡ owner_in_view asked world old addr owner
+  owner_same mappings addr file no_file None is = refl
+  owner_same mappings addr file no_file (Some mapping) is =
+      mapping_same mapping addr mapping.name (λ maps_file symbolic_path named. file mapping maps_file symbolic_path is named) (λ none asks. no_file asks mapping is none)
 
-  pub address_same : (mappings : List Mapping) (addr : ℕ) → address_in_view asked world now mappings addr ≡ address_in_view asked world old mappings addr
-  address_same mappings addr = owner_same addr (owner_of mappings addr)
+  pub address_same : (mappings : List Mapping) (addr : ℕ) → InFile uses_elf mappings addr → InNoFile uses_perf_maps asked mappings addr →
+      address_in_view asked world now mappings addr ≡ address_in_view asked world old mappings addr
+  address_same mappings addr file no_file = owner_same mappings addr file no_file (owner_of mappings addr) refl
 
 -- a step answers by what is in view
-module _ (asked : Asked) (world : World) (kept : ProcessCaches) (coheres : CoheresIn world kept) where
+module _ {uses_elf uses_perf_maps : Type 0} (asked : Asked) (world : World) (kept : ProcessCaches) (coheres : CoheresIn uses_elf uses_perf_maps world kept) where
   -- remembering changes no cache
   left_id : (opens : ℕ) (id : Result ℕ Error) → (by_id asked.pid asked.own opens kept id).left.perf_maps ≡ kept.perf_maps
   left_id opens (Ok id) = refl
@@ -128,26 +143,32 @@ module _ (asked : Asked) (world : World) (kept : ProcessCaches) (coheres : Coher
   left_kept (Some known) = refl
   left_kept None = left_id _ _
 
-  known_shown : (addr : ℕ) (known : Result Remembered Error) (left : ProcessCaches) (opens : ℕ) → left.perf_maps ≡ kept.perf_maps →
+  known_shown : uses_perf_maps → (addr : ℕ) (known : Result Remembered Error) (left : ProcessCaches) (opens : ℕ) → left.perf_maps ≡ kept.perf_maps →
       (followed known left opens (λ k l. of_perf_map (asks_perf_map addr) k.perf_map world l)).answer ≡ perf_map_in_view asked world kept addr known
-  known_shown addr (Ok known) left opens same =
+  known_shown used addr (Ok known) left opens same =
       ap (λ (c : Cache). by_look (asks_perf_map addr) (look perf.format_test c known.perf_map (entry_at world known.perf_map)).0) same
-      ∙ look_by_view (asks_perf_map addr) kept.perf_maps world known.perf_map coheres.perf_maps_cohere
-  known_shown addr (Err e) left opens same = refl
+      ∙ look_by_view (asks_perf_map addr) kept.perf_maps world known.perf_map (coheres.perf_maps_cohere used)
+  known_shown used addr (Err e) left opens same = refl
 
-  unnamed_shown : (perf_map : Bool) (addr : ℕ) → (by_asked perf_map asked addr world kept).answer ≡ unnamed_in_view asked world kept perf_map addr
-  unnamed_shown true addr = ap or_unknown (known_shown addr (remember asked.pid asked.own world kept).answer (remember asked.pid asked.own world kept).left (remember asked.pid asked.own world kept).opens
+  unnamed_shown : (perf_map : Bool) → (perf_map ≡ true → uses_perf_maps) → (addr : ℕ) → (by_asked perf_map asked addr world kept).answer ≡ unnamed_in_view asked world kept perf_map addr
+  unnamed_shown true used addr =
+      ap or_unknown (known_shown (used refl) addr (remember asked.pid asked.own world kept).answer (remember asked.pid asked.own world kept).left (remember asked.pid asked.own world kept).opens
       (left_kept (value_at pid_cmp kept.ids asked.pid)))
-  unnamed_shown false addr = refl
+  unnamed_shown false used addr = refl
 
-  mapping_shown : (mapping : Mapping) (addr : ℕ) (name : Option Name) → (by_mapping asked mapping addr None name world kept).answer ≡ mapping_in_view asked world kept mapping addr name
-  mapping_shown mapping addr None = unnamed_shown asked.perf_map addr
-  mapping_shown mapping addr (Some (Component text)) = refl
-  mapping_shown mapping addr (Some (File maps_file symbolic_path)) = look_by_view (asks_elf symbolic_path (offset_in mapping addr)) kept.elf world (cond asked.map_files maps_file symbolic_path) coheres.elf_coheres
+  mapping_shown : (mapping : Mapping) (addr : ℕ) (name : Option Name) → ((maps_file symbolic_path : List ℕ) → name ≡ Some (File maps_file symbolic_path) → uses_elf) → (name ≡ None → asked.perf_map ≡ true → uses_perf_maps) →
+      (by_mapping asked mapping addr None name world kept).answer ≡ mapping_in_view asked world kept mapping addr name
+  mapping_shown mapping addr None file no_name = unnamed_shown asked.perf_map (no_name refl) addr
+  mapping_shown mapping addr (Some (Component text)) file no_name = refl
+  mapping_shown mapping addr (Some (File maps_file symbolic_path)) file no_name =
+      look_by_view (asks_elf symbolic_path (offset_in mapping addr)) kept.elf world (cond asked.map_files maps_file symbolic_path) (coheres.elf_coheres (file maps_file symbolic_path refl))
 
-  owner_shown : (addr : ℕ) (owner : Option Mapping) → (by_owner asked addr None owner world kept).answer ≡ owner_in_view asked world kept addr owner
-  owner_shown addr None = refl
-  owner_shown addr (Some mapping) = mapping_shown mapping addr mapping.name
+  owner_shown : (mappings : List Mapping) (addr : ℕ) → InFile uses_elf mappings addr → InNoFile uses_perf_maps asked mappings addr → (owner : Option Mapping) → owner_of mappings addr ≡ owner →
+      (by_owner asked addr None owner world kept).answer ≡ owner_in_view asked world kept addr owner
+  owner_shown mappings addr file no_file None is = refl
+  owner_shown mappings addr file no_file (Some mapping) is =
+      mapping_shown mapping addr mapping.name (λ maps_file symbolic_path named. file mapping maps_file symbolic_path is named) (λ none asks. no_file asks mapping is none)
 
-  pub address_shown : (mappings : List Mapping) (addr : ℕ) → (at_address asked mappings (unsaid addr) world kept).answer ≡ address_in_view asked world kept mappings addr
-  address_shown mappings addr = owner_shown addr (owner_of mappings addr)
+  pub address_shown : (mappings : List Mapping) (addr : ℕ) → InFile uses_elf mappings addr → InNoFile uses_perf_maps asked mappings addr →
+      (at_address asked mappings (unsaid addr) world kept).answer ≡ address_in_view asked world kept mappings addr
+  address_shown mappings addr file no_file = owner_shown mappings addr file no_file (owner_of mappings addr) refl

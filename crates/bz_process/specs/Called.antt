@@ -13,7 +13,7 @@ use Rattle.bz_proc.specs.Maps.{Mapping}
 use Rattle.bz_process.specs.Asked.{Asked}
 use Rattle.bz_process.specs.Caches.{ProcessCaches}
 use Rattle.bz_process.specs.Dispatch.{Test}
-use Rattle.bz_process.specs.InView.{CoheresIn, process_in_view}
+use Rattle.bz_process.specs.InView.{CoheresFor, process_in_view}
 use Rattle.bz_process.specs.ProcessAsk.{GivesNone}
 use Rattle.bz_process.specs.Processes.{KeptProcesses, SymbolizesAddress, SymbolizesProcess, caches_of, kept_mappings}
 use Rattle.bz_process.specs.Reads.{CoverMapped, reads_once}
@@ -82,13 +82,13 @@ module _ {A B Q D R X : Type 0} {files : Ghosts X} {test : D → Test R} {transl
   abbrev pub entry_in_view : World → ProcessCalled files test translates finds A B Q → ℕ → Answer
   entry_in_view world call addr = in_batch (answer_in_view world call addr)
 
-  -- it goes by what is in view alone
-  pub record GoesByView (world : World) (call : ProcessCalled files test translates finds A B Q) : Type 0 where
+  -- for these addresses it goes by what is in view alone
+  pub record GoesByView (world : World) (call : ProcessCalled files test translates finds A B Q) (addrs : List ℕ) : Type 0 where
     -- its dispatcher gives no resolver and refuses nothing
     pub none : GivesNone (test call.old.dispatcher)
-    -- this world is in view before it, and the versions that were kept cohere with it
+    -- this world is in view before it, and those kept versions that the addresses use cohere with it
     pub seen : view_before call ≡ Some world
-    pub coheres : CoheresIn world (caches_before call)
+    pub coheres : CoheresFor call.asked (mappings_before call) world (caches_before call) addrs
 
   -- these paths have those of the mapped files of its addresses
   abbrev pub CoverAddresses : World → List (List ℕ) → ProcessCalled files test translates finds A B Q → List ℕ → Type 0

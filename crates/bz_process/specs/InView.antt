@@ -1,6 +1,6 @@
 -- What a process answers at an address by the versions in view, where no resolver is in charge. No
 -- answer depends on what else was asked.
-use Rattle.std.specs.Prelude.{ℕ, Bool, true, false, cond, List, Option, Some, None, Result, Ok, Err}
+use Rattle.std.specs.Prelude.{◌≡◌, ℕ, Bool, true, false, cond, List, Option, Some, None, Result, Ok, Err, Contains}
 use Rattle.bz_base.specs.Answer.{Answer, Unknown}
 use Rattle.bz_base.specs.declared.error.Error.{Error}
 use Rattle.bz_base.specs.declared.types.Reason.TheVariants as reasons
@@ -18,13 +18,42 @@ use Rattle.bz_process.specs.Mapped.{some_mappings}
 use Rattle.bz_process.specs.Process.{asks_elf, asks_perf_map, offset_in, or_unknown, remember}
 use Rattle.bz_process.specs.Remembered.{Remembered}
 
--- both caches are well kept and cohere with the world, in which equal stamps have equal bytes
-pub record CoheresIn (world : World) (kept : ProcessCaches) : Type 0 where
+-- one of the addresses lies in a mapped file, so kept ELF files are used
+pub record UsesElf (told : Result (List Mapping) Error) (addrs : List ℕ) : Type 0 where
+  pub mappings : List Mapping
+  pub told_so : told ≡ Ok mappings
+  pub addr : ℕ
+  pub is_asked : Contains addrs addr
+  pub mapping : Mapping
+  pub owns : owner_of mappings addr ≡ Some mapping
+  pub maps_file : List ℕ
+  pub symbolic_path : List ℕ
+  pub is_file : mapping.name ≡ Some (File maps_file symbolic_path)
+
+-- perf maps are asked, and one of the addresses lies in a mapping without a name, so kept ones are used
+pub record UsesPerfMaps (asked : Asked) (told : Result (List Mapping) Error) (addrs : List ℕ) : Type 0 where
+  pub asks : asked.perf_map ≡ true
+  pub mappings : List Mapping
+  pub told_so : told ≡ Ok mappings
+  pub addr : ℕ
+  pub is_asked : Contains addrs addr
+  pub mapping : Mapping
+  pub owns : owner_of mappings addr ≡ Some mapping
+  pub no_name : mapping.name ≡ None
+
+-- both caches are well kept. Where one is used, it coheres with the world, in which equal stamps have
+-- equal bytes
+pub record CoheresIn (uses_elf uses_perf_maps : Type 0) (world : World) (kept : ProcessCaches) : Type 0 where
   pub elf : Consistent elf.format_test kept.elf
   pub perf_maps : Consistent perf.format_test kept.perf_maps
-  pub elf_coheres : Coherent kept.elf.kept world
-  pub perf_maps_cohere : Coherent kept.perf_maps.kept world
+  pub elf_coheres : uses_elf → Coherent kept.elf.kept world
+  pub perf_maps_cohere : uses_perf_maps → Coherent kept.perf_maps.kept world
   pub agrees : AgreeOn world world
+
+-- so do those that these addresses use, by the kept mappings or else by those that lie there
+abbrev pub CoheresFor : Asked → Option (List Mapping) → World → ProcessCaches → List ℕ → Type 0
+CoheresFor asked known world kept addrs =
+    let told = (some_mappings asked.pid known world kept).answer in CoheresIn (UsesElf told addrs) (UsesPerfMaps asked told addrs) world kept
 
 module _ (asked : Asked) (world : World) (kept : ProcessCaches) where
   -- what the perf map answers that is in view for what is remembered of the process, or would be

@@ -9,7 +9,7 @@ ghost use Rattle.bz_proc.specs.Maps.{Mapping};
 ghost use Rattle.bz_process.specs.Asked.{Asked};
 ghost use Rattle.bz_process.specs.Caches.{ProcessCaches};
 ghost use Rattle.bz_process.specs.Called.{BatchCalled, CoverAddresses, GoesByView, ReadsAtMost, SingleCalled, SymbolizesBatch, SymbolizesSingle, answer_in_view, caches_after, caches_before, entry_in_view, once_read, view_before};
-ghost use Rattle.bz_process.specs.InView.{CoheresIn, process_in_view};
+ghost use Rattle.bz_process.specs.InView.{CoheresFor, process_in_view};
 ghost use Rattle.bz_process.specs.Mapped.{asks_process_at};
 ghost use Rattle.bz_process.specs.Process.{unsaid};
 ghost use Rattle.bz_process.specs.ProcessCall.{Change, IsTold, Reaches, after_changes};
@@ -46,18 +46,18 @@ pub fn paths_are_as_looked()
     ensures { (own : ℕ) (world : World) (old now : ProcessCaches) → Reaches own (Some world) old now → AreLookedOver own world old now }
 {}
 
-/// Take a dispatcher that gives no resolver and refuses nothing, and versions that cohere with the
-/// world in view. What is in view when the call begins then answers each address alone, in a batch and
-/// by itself. In a batch a refusal is an ignored error. So entries stand alone, and addresses in
+/// Take a dispatcher that gives no resolver and refuses nothing. Let the kept versions that the
+/// addresses use cohere with the world in view. What is in view when the call begins then answers each
+/// address alone, in a batch and by itself. In a batch a refusal is an ignored error. So entries stand alone, and addresses in
 /// another order have their answers in that order. An entry is the answer of the single call or folds
 /// its refusal.
 pub fn entries_are_in_view<D: ProcessDispatch + Drop, F: Files, A>()
     ensures batch { (call : BatchCalled A F.Files D.may_dispatch D.Resolver.TranslateFileOffset D.Resolver.Symbolize) (world : World) →
-        SymbolizesBatch call → GoesByView world call → IfOk call.result (λ answers. call.reading answers ≡ map (entry_in_view world call) call.input) }
+        SymbolizesBatch call → GoesByView world call call.input → IfOk call.result (λ answers. call.reading answers ≡ map (entry_in_view world call) call.input) }
     ensures single { (call : SingleCalled A F.Files D.may_dispatch D.Resolver.TranslateFileOffset D.Resolver.Symbolize) (world : World) →
-        SymbolizesSingle call → is_in_process call.kind ≡ true → GoesByView world call → GivesOrFaults call.reading (answer_in_view world call call.input) call.result }
+        SymbolizesSingle call → is_in_process call.kind ≡ true → GoesByView world call (call.input ∷ []) → GivesOrFaults call.reading (answer_in_view world call call.input) call.result }
     ensures alone { (asked : Asked) (known : Option (List Mapping)) (world : World) (kept : ProcessCaches) (addr : ℕ) →
-        CoheresIn world kept → (asks_process_at asked known (unsaid addr) world kept).answer ≡ process_in_view asked world kept known addr }
+        CoheresFor asked known world kept (addr ∷ []) → (asks_process_at asked known (unsaid addr) world kept).answer ≡ process_in_view asked world kept known addr }
 {}
 
 /// Where the world is told, a call on a process reads no more files than were left to read, each

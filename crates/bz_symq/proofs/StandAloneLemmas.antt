@@ -1,6 +1,7 @@
 -- What a process answers at an address doesn't depend on what else is asked, where equal
 -- stamps mean equal bytes.
 use Rattle.std.proofs.Common.{◌≡◌, ℕ, List, [], ◌∷◌, map, Some, None, Result, Ok, refl, sym, ap, ap₂, ◌∙◌}
+use Rattle.std.specs.Prelude.{⊤}
 use Rattle.bz_base.specs.Answer.{Answer, in_batch}
 use Rattle.bz_base.specs.declared.error.Error.{Error}
 use Rattle.bz_files.specs.Agreement.{AgreeOn}
@@ -19,19 +20,19 @@ use Rattle.bz_process.specs.ProcessCall.{Reaches}
 use Rattle.bz_process.proofs.LookedLemmas.{reached_looked}
 use Rattle.bz_process.proofs.ProcessLemmas.{reaches_both, reaches_same}
 use Rattle.bz_process.proofs.StepLemmas.{address_leads, coheres_after}
-use Rattle.bz_process.proofs.ViewLemmas.{address_same, address_shown}
+use Rattle.bz_process.proofs.ViewLemmas.{InFile, InNoFile, address_same, address_shown}
 use Rattle.bz_requests.specs.declared.requests.Config.{Config}
 use Rattle.bz_symq.specs.Command.{Asking, OneProcess}
 use Rattle.bz_symq.specs.Processes.{IsProcessBatch, asked_by, maps_of, nothing_kept, pid_of}
 use Rattle.bz_symq.specs.Targets.{AnswersIn, HasFile}
 
 -- what nothing is kept of coheres with each world in which equal stamps have equal bytes
-nothing_coheres : (config : Config) (world : World) → AgreeOn world world → CoheresIn world (nothing_kept config)
+nothing_coheres : (config : Config) (world : World) → AgreeOn world world → CoheresIn ⊤ ⊤ world (nothing_kept config)
 nothing_coheres config world agrees = record {
   elf = consistent_new elf.format_test config.reload;
   perf_maps = consistent_new perf.format_test config.reload;
-  elf_coheres = new_coherent config.reload world;
-  perf_maps_cohere = new_coherent config.reload world;
+  elf_coheres = λ used. new_coherent config.reload world;
+  perf_maps_cohere = λ used. new_coherent config.reload world;
   agrees = agrees;
 }
 
@@ -47,7 +48,10 @@ module _ (config : Config) (number own : ℕ) (world : World) (agrees : AgreeOn 
       let asked = asked_by config number own in
       let before = nothing_coheres config world agrees in
       let after = coheres_after world own (nothing_kept config) now reached before in
-      ap in_batch (address_shown asked world now after mappings addr ∙ address_same asked world (nothing_kept config) now before after (reached_looked world own (nothing_kept config) now reached) mappings addr)
+      let file : InFile ⊤ mappings addr = λ mapping maps_file symbolic_path owns named. tt in
+      let no_file : InNoFile ⊤ asked mappings addr = λ asks mapping owns none. tt in
+      ap in_batch (address_shown asked world now after mappings addr file no_file
+      ∙ address_same asked world (nothing_kept config) now before after (reached_looked world own (nothing_kept config) now reached) mappings addr file no_file)
 
   -- every entry of a batch is what is in view for its address alone
   batch_shown : (mappings : List Mapping) (now : ProcessCaches) (addrs : List ℕ) → Reaches own (Some world) (nothing_kept config) now →
