@@ -1,6 +1,6 @@
 //! Readers and writers in memory.
 
-use bz_files::{MemIn, MemOut, TextError, TextIn, TextOut};
+use bz_files::{MemIn, MemOut, IoFault, TextIn, TextOut};
 use std::alloc::Global;
 
 /// Whether a text comes in pieces of three bytes, with a failure in between.
@@ -9,7 +9,7 @@ fn comes_in_pieces(input: &mut MemIn) -> bool {
     input.fail_call(2);
     input.take(&mut piece) == Ok(3)
         && piece == *b"abc"
-        && input.take(&mut piece) == Err(TextError::Fault)
+        && input.take(&mut piece) == Err(IoFault::Fault)
         && input.take(&mut piece) == Ok(2)
         && input.faults() == 1
 }
@@ -26,7 +26,7 @@ fn comes_of_bytes(alloc: Global) -> bool {
 fn goes_in_pieces(output: &mut MemOut) -> bool {
     output.fail_call(2);
     output.put(b"abc") == Ok(3)
-        && output.put(b"abc") == Err(TextError::Fault)
+        && output.put(b"abc") == Err(IoFault::Fault)
         && output.written() == b"abc".as_slice()
         && output.faults() == 1
 }

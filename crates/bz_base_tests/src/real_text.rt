@@ -1,6 +1,6 @@
 //! Readers and writers of the system.
 
-use bz_files::{RealIn, RealOut, TextError, TextIn, TextOut};
+use bz_files::{RealIn, RealOut, IoFault, TextIn, TextOut};
 use std::alloc::Global;
 use std::io::{self, ErrorKind, Read, Write};
 
@@ -90,7 +90,7 @@ static FAILURES: [(ErrorKind, u32, u64); 3] = [
 fn comes_after(kind: ErrorKind, left: u32, faults: u64) -> bool {
     let mut piece = [0u8; 3];
     let mut input = RealIn::new(FailsFirst { kind, left });
-    (faults == 0 || input.take(&mut piece) == Err(TextError::Fault))
+    (faults == 0 || input.take(&mut piece) == Err(IoFault::Fault))
         && input.take(&mut piece) == Ok(1)
         && piece == *b"a\0\0"
         && input.faults() == faults
@@ -99,7 +99,7 @@ fn comes_after(kind: ErrorKind, left: u32, faults: u64) -> bool {
 /// Whether the first piece is a fault that is counted, if there is one, and the next one goes.
 fn goes_after(kind: ErrorKind, left: u32, faults: u64) -> bool {
     let mut output = RealOut::new(FailsFirst { kind, left });
-    (faults == 0 || output.put(b"abc") == Err(TextError::Fault))
+    (faults == 0 || output.put(b"abc") == Err(IoFault::Fault))
         && output.put(b"abc") == Ok(3)
         && output.faults() == faults
 }
@@ -109,7 +109,7 @@ fn goes_while_there_is_room() -> bool {
     let mut room = [0u8; 2];
     let mut full = RealOut::new(room.as_mut_slice());
     full.put(b"abc") == Ok(2)
-        && full.put(b"c") == Err(TextError::Fault)
+        && full.put(b"c") == Err(IoFault::Fault)
         && full.put(b"") == Ok(0)
         && full.faults() == 1
 }

@@ -4,7 +4,7 @@ ghost use Rattle.std.specs.Prelude.{◌≡◌, ◌↔◌, ℕ, List, [], ◌∷�
 ghost use Rattle.std.specs.declared.cmp.Ordering.TheVariants.{Equal};
 ghost use Rattle.bz_files.specs.declared.files.FileError.{FileError};
 ghost use Rattle.bz_files.specs.declared.stamp.Stamp.{Stamp};
-ghost use Rattle.bz_files.specs.declared.text.TextError.{TextError};
+ghost use Rattle.bz_files.specs.declared.text.IoFault.{IoFault};
 ghost use Rattle.bz_files.specs.Agreement.{Agree};
 ghost use Rattle.bz_files.specs.Edits.{Agreeing, Edit, after_edit, worlds_seen};
 ghost use Rattle.bz_files.specs.MemWorlds.{MemWorlds, after_look, after_read, new_worlds};
@@ -13,7 +13,7 @@ ghost use Rattle.bz_files.specs.World.{World, next_worlds};
 
 use crate::files::FileError;
 use crate::stamp::Stamp;
-use crate::text::TextError;
+use crate::text::IoFault;
 use std::hash::Hash;
 
 /// Stamps are equal exactly where every field is. Their order goes by the fields as they stand, and
@@ -34,21 +34,21 @@ pub fn stamp_hash_agrees()
 /// Failures of looks and of ends of texts are equal exactly where they are the same variant.
 pub fn variants_are_equal_alone()
     ensures files { (a b : FileError) → IsTrue (⟦<FileError as PartialEq>⟧.eq a b) ↔ (a ≡ b) }
-    ensures texts { (a b : TextError) → IsTrue (⟦<TextError as PartialEq>⟧.eq a b) ↔ (a ≡ b) }
+    ensures texts { (a b : IoFault) → IsTrue (⟦<IoFault as PartialEq>⟧.eq a b) ↔ (a ≡ b) }
 {}
 
 /// A clone of a stamp or of a failure is equal to it.
 pub fn clones_are_equal()
     ensures stamps { (a b : Stamp) → ⟦<Stamp as Clone>⟧.is_clone a b ↔ (a ≡ b) }
     ensures files { (a b : FileError) → ⟦<FileError as Clone>⟧.is_clone a b ↔ (a ≡ b) }
-    ensures texts { (a b : TextError) → ⟦<TextError as Clone>⟧.is_clone a b ↔ (a ≡ b) }
+    ensures texts { (a b : IoFault) → ⟦<IoFault as Clone>⟧.is_clone a b ↔ (a ≡ b) }
 {}
 
 /// Cloning a stamp or a failure takes no memory.
 pub fn clones_never_fail()
     ensures stamps { (a : Stamp) → ⟦<Stamp as Clone>⟧.is_infallible a }
     ensures files { (a : FileError) → ⟦<FileError as Clone>⟧.is_infallible a }
-    ensures texts { (a : TextError) → ⟦<TextError as Clone>⟧.is_infallible a }
+    ensures texts { (a : IoFault) → ⟦<IoFault as Clone>⟧.is_infallible a }
 {}
 
 /// New files in memory agree, and each edit that chooses no stamp keeps that. Then all worlds agree

@@ -18,4 +18,4 @@ pub use mem_text::{MemIn, MemOut};
 pub use real_files::RealFiles;
 pub use real_text::{RealIn, RealOut};
 pub use stamp::Stamp;
-pub use text::{TextError, TextIn, TextOut};
+pub use text::{IoFault, TextIn, TextOut};

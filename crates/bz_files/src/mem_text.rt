@@ -6,7 +6,7 @@ ghost use Rattle.bz_files.specs.TextEnd.{Takes, Puts};
 ghost use Rattle.bz_files.specs.MemEnd.{new_end, is_failing, fails_next, after_call};
 
 use crate::counter::Counter;
-use crate::text::{TextError, TextIn, TextOut};
+use crate::text::{IoFault, TextIn, TextOut};
 use std::alloc::Global;
 use std::marker::Model;
 
@@ -103,17 +103,17 @@ impl TextIn for MemIn {
 
     ghost faults = { λ end. end.faults };
 
-    fn take(&mut self, piece: &mut [u8]) -> Result<usize, TextError>
+    fn take(&mut self, piece: &mut [u8]) -> Result<usize, IoFault>
         ensures full { IfOk result (λ n. n ≡ min (length piece.old) (length self.old.bytes)) }
         ensures takes { Takes (Some self.old.bytes) (Some self.new.bytes) piece.old piece.new result }
         ensures ok { IfOk result (λ n. self.new ≡ record (after_call self.old) { bytes = drop n self.old.bytes }) }
         ensures err { OnErr result (self.new ≡ after_call self.old) }
-        ensures failing { IsErrOf result TextError.Fault ↔ IsTrue (fails_next self.old) }
-        ensures faults { CountsFaults self.old.faults self.new.faults (IsErrOf result TextError.Fault) }
-        ensures no_memory { IsErrOf result TextError.OutOfMemory → ⊥ }
+        ensures failing { IsErrOf result IoFault.Fault ↔ IsTrue (fails_next self.old) }
+        ensures faults { CountsFaults self.old.faults self.new.faults (IsErrOf result IoFault.Fault) }
+        ensures no_memory { IsErrOf result IoFault.OutOfMemory → ⊥ }
     {
         if self.calls.begin() {
-            return Err(TextError::Fault);
+            return Err(IoFault::Fault);
         }
         let left = &self.bytes[self.at..];
         let n = left.len().min(piece.len());
@@ -178,21 +178,21 @@ impl TextOut for MemOut {
 
     ghost faults = { λ end. end.faults };
 
-    fn put(&mut self, piece: &[u8]) -> Result<usize, TextError>
+    fn put(&mut self, piece: &[u8]) -> Result<usize, IoFault>
         ensures full { IfOk result (λ n. n ≡ length piece.now) }
         ensures positive { IfOk result (λ n. 0 < length piece.now → 0 < n) }
         ensures puts { Puts (Some self.old.bytes) (Some self.new.bytes) piece.now result }
         ensures ok { OnOk result (self.new ≡ record (after_call self.old) { bytes = self.old.bytes ++ piece.now }) }
         ensures err { OnErr result (self.new ≡ after_call self.old) }
-        ensures failing { IsErrOf result TextError.Fault ↔ IsTrue (fails_next self.old) }
-        ensures faults { CountsFaults self.old.faults self.new.faults (IsErrOf result TextError.Fault) }
+        ensures failing { IsErrOf result IoFault.Fault ↔ IsTrue (fails_next self.old) }
+        ensures faults { CountsFaults self.old.faults self.new.faults (IsErrOf result IoFault.Fault) }
     {
         if self.calls.begin() {
-            return Err(TextError::Fault);
+            return Err(IoFault::Fault);
         }
         match self.bytes.extend_from_slice(piece) {
             Ok(()) => Ok(piece.len()),
-            Err(_) => Err(TextError::OutOfMemory),
+            Err(_) => Err(IoFault::OutOfMemory),
         }
     }
 }

@@ -7,7 +7,7 @@ ghost use Rattle.bz_files.specs.Count.{CountsFaults, counted};
 ghost use Rattle.bz_files.specs.RealEnd.{new_end};
 
 use crate::counter::Counter;
-use crate::text::{TextError, TextIn, TextOut};
+use crate::text::{IoFault, TextIn, TextOut};
 use std::io::{ErrorKind, Read, Write};
 use std::marker::Model;
 
@@ -55,13 +55,13 @@ impl<R: Read + Drop> TextIn for RealIn<R> {
 
     ghost faults = { λ end. end.faults };
 
-    fn take(&mut self, piece: &mut [u8]) -> Result<usize, TextError>
+    fn take(&mut self, piece: &mut [u8]) -> Result<usize, IoFault>
         ensures within { IfOk result (λ n. n ≤ length piece.old) }
         ensures bytes { ReadConsumes self.old.known self.new.known result piece.new }
         ensures ok { OnOk result (self.new.faults ≡ self.old.faults) }
         ensures err { OnErr result (self.new.faults ≡ counted self.old.faults) }
-        ensures faults { CountsFaults self.old.faults self.new.faults (IsErrOf result TextError.Fault) }
-        ensures no_memory { IsErrOf result TextError.OutOfMemory → ⊥ }
+        ensures faults { CountsFaults self.old.faults self.new.faults (IsErrOf result IoFault.Fault) }
+        ensures no_memory { IsErrOf result IoFault.OutOfMemory → ⊥ }
     {
         match read_some(&mut self.reader, piece) {
             Ok(n) => Ok(n),
@@ -114,59 +114,59 @@ impl<W: Write + Drop> TextOut for RealOut<W> {
 
     ghost faults = { λ end. end.faults };
 
-    fn put(&mut self, piece: &[u8]) -> Result<usize, TextError>
+    fn put(&mut self, piece: &[u8]) -> Result<usize, IoFault>
         ensures within { IfOk result (λ n. n ≤ length piece.now) }
         ensures bytes { WriteAppends self.old.known self.new.known result piece.now }
         ensures positive { IfOk result (λ n. 0 < length piece.now → 0 < n) }
         ensures ok { OnOk result (self.new.faults ≡ self.old.faults) }
         ensures err { OnErr result (self.new.faults ≡ counted self.old.faults) }
-        ensures faults { CountsFaults self.old.faults self.new.faults (IsErrOf result TextError.Fault) }
-        ensures no_memory { IsErrOf result TextError.OutOfMemory → ⊥ }
+        ensures faults { CountsFaults self.old.faults self.new.faults (IsErrOf result IoFault.Fault) }
+        ensures no_memory { IsErrOf result IoFault.OutOfMemory → ⊥ }
     {
         match write_some(&mut self.writer, piece) {
             Ok(n) if n > 0 || piece.is_empty() => Ok(n),
             _ => {
                 self.faults.add_one();
-                Err(TextError::Fault)
+                Err(IoFault::Fault)
             }
         }
     }
 }
 
 /// Reads once. A call that the system interrupted is made again.
-fn read_some<R: Read>(reader: &mut R, piece: &mut [u8]) -> Result<usize, TextError>
+fn read_some<R: Read>(reader: &mut R, piece: &mut [u8]) -> Result<usize, IoFault>
     ensures within { IfOk result (λ n. n ≤ length piece.old) }
     ensures bytes { ReadConsumes (R.remaining reader.old) (R.remaining reader.new) result piece.new }
-    ensures no_memory { IsErrOf result TextError.OutOfMemory → ⊥ }
+    ensures no_memory { IsErrOf result IoFault.OutOfMemory → ⊥ }
 {
     for _ in 0..MOST_INTERRUPTED {
         match reader.read(piece) {
             Ok(n) => return Ok(n),
             Err(failed) => {
                 if failed.kind() != ErrorKind::Interrupted {
-                    return Err(TextError::Fault);
+                    return Err(IoFault::Fault);
                 }
             }
         }
     }
-    Err(TextError::Fault)
+    Err(IoFault::Fault)
 }
 
 /// Writes once. A call that the system interrupted is made again.
-fn write_some<W: Write>(writer: &mut W, piece: &[u8]) -> Result<usize, TextError>
+fn write_some<W: Write>(writer: &mut W, piece: &[u8]) -> Result<usize, IoFault>
     ensures within { IfOk result (λ n. n ≤ length piece.now) }
     ensures bytes { WriteAppends (W.contents writer.old) (W.contents writer.new) result piece.now }
-    ensures no_memory { IsErrOf result TextError.OutOfMemory → ⊥ }
+    ensures no_memory { IsErrOf result IoFault.OutOfMemory → ⊥ }
 {
     for _ in 0..MOST_INTERRUPTED {
         match writer.write(piece) {
             Ok(n) => return Ok(n),
             Err(failed) => {
                 if failed.kind() != ErrorKind::Interrupted {
-                    return Err(TextError::Fault);
+                    return Err(IoFault::Fault);
                 }
             }
         }
     }
-    Err(TextError::Fault)
+    Err(IoFault::Fault)
 }

@@ -6,7 +6,7 @@ ghost use Rattle.bz_files.specs.TextEnd.{Takes, Puts};
 
 /// Why an end of a text failed.
 #[derive(Clone, Copy, PartialEq, Eq)]
-pub enum TextError {
+pub enum IoFault {
     /// The end failed, and its count of faults rose.
     Fault,
     /// Memory ran out.
@@ -24,11 +24,11 @@ pub trait TextIn {
 
     /// Moves the next bytes to the front of `piece`, and says how many. At a piece that isn't empty
     /// 0 is the end of the text.
-    fn take(&mut self, piece: &mut [u8]) -> Result<usize, TextError>
+    fn take(&mut self, piece: &mut [u8]) -> Result<usize, IoFault>
         ensures within { IfOk result (λ n. n ≤ length piece.old) }
         ensures takes { Takes (left self.old) (left self.new) piece.old piece.new result }
-        ensures faults { CountsFaults (faults self.old) (faults self.new) (IsErrOf result TextError.Fault) }
-        ensures no_memory { IsErrOf result TextError.OutOfMemory → ⊥ };
+        ensures faults { CountsFaults (faults self.old) (faults self.new) (IsErrOf result IoFault.Fault) }
+        ensures no_memory { IsErrOf result IoFault.OutOfMemory → ⊥ };
 }
 
 /// Where a text is written to.
@@ -41,9 +41,9 @@ pub trait TextOut {
     ghost faults: { Self → ℕ };
 
     /// Writes bytes from the front of `piece`, at least one where there is one, and says how many.
-    fn put(&mut self, piece: &[u8]) -> Result<usize, TextError>
+    fn put(&mut self, piece: &[u8]) -> Result<usize, IoFault>
         ensures within { IfOk result (λ n. n ≤ length piece.now) }
         ensures positive { IfOk result (λ n. 0 < length piece.now → 0 < n) }
         ensures puts { Puts (written self.old) (written self.new) piece.now result }
-        ensures faults { CountsFaults (faults self.old) (faults self.new) (IsErrOf result TextError.Fault) };
+        ensures faults { CountsFaults (faults self.old) (faults self.new) (IsErrOf result IoFault.Fault) };
 }

@@ -7,7 +7,7 @@ ghost use Rattle.bz_requests.specs.Addresses.{addresses_in};
 ghost use Rattle.bz_requests.specs.InputText.{greatest_input, left_over, room_after, Moves, MovesAtMost};
 
 use crate::lines::{BadInput, read_lines};
-use bz_files::{TextError, TextIn};
+use bz_files::{IoFault, TextIn};
 use std::alloc::Global;
 
 /// The greatest length of an input, in bytes.
@@ -64,8 +64,8 @@ fn read_piece<R: TextIn>(input: &mut R, all: &mut Vec<u8>) -> std::result::Resul
             Ok(()) => Ok(n),
             Err(_) => Err(ReadStop::Memory),
         },
-        Err(TextError::Fault) => Err(ReadStop::Fault),
-        Err(TextError::OutOfMemory) => Err(ReadStop::Memory),
+        Err(IoFault::Fault) => Err(ReadStop::Fault),
+        Err(IoFault::OutOfMemory) => Err(ReadStop::Memory),
     }
 }
 

@@ -5,8 +5,8 @@ use Rattle.bz_base.specs.declared.error.Error.TheVariants as errors
 use Rattle.bz_files.specs.Looked.{Faulted}
 use Rattle.bz_files.specs.World.{World}
 use Rattle.bz_files.specs.declared.files.Files as files_trait
-use Rattle.bz_files.specs.declared.text.TextError.{TextError}
-use Rattle.bz_files.specs.declared.text.TextError.TheVariants as faults
+use Rattle.bz_files.specs.declared.text.IoFault.{IoFault}
+use Rattle.bz_files.specs.declared.text.IoFault.TheVariants as faults
 use Rattle.bz_files.specs.declared.text.TextOut as output_trait
 use Rattle.bz_symq.specs.Reply.{text_of}
 use Rattle.bz_symq.specs.Run.{WritesFront}
@@ -23,7 +23,7 @@ use Rattle.bz_serve.proofs.RequestReplyLemmas.{looked_as}
 module _ {W F : Type 0} (writes : output_trait.Ghosts W) (looks : files_trait.Ghosts F) (step : KeptState → World → RequestOutcome) (MaySay : List ℕ → Type 0) (old now : KeptState)
     (output_before output_after : W) (files_before files_after : F) where
   -- what is said is written, or a front of it
-  pub served_said : (say : Said) (put : Result (Unit {0}) TextError) (result : Result (Unit {0}) Stop) → Replied looks step (Ok say) old now files_before files_after → MaySay (text_of say) →
+  pub served_said : (say : Said) (put : Result (Unit {0}) IoFault) (result : Result (Unit {0}) Stop) → Replied looks step (Ok say) old now files_before files_after → MaySay (text_of say) →
       WritesText writes (text_of say) put output_before output_after → StopsAs put result → Served writes looks step MaySay result old now output_before output_after files_before files_after
   served_said say (Ok given) result replied may wrote is = rw is (record {
     whole = λ world told was written. wrote.whole was written ∙ ap (λ text. Some (was ++ text)) (replied.said world told);

@@ -8,8 +8,8 @@ use Rattle.bz_files.specs.Count.{CountsFaults}
 use Rattle.bz_files.specs.Looked.{Faulted, Looked}
 use Rattle.bz_files.specs.World.{World, Told, in_view}
 use Rattle.bz_files.specs.declared.files.Files as files_trait
-use Rattle.bz_files.specs.declared.text.TextError.{TextError}
-use Rattle.bz_files.specs.declared.text.TextError.TheVariants as faults
+use Rattle.bz_files.specs.declared.text.IoFault.{IoFault}
+use Rattle.bz_files.specs.declared.text.IoFault.TheVariants as faults
 use Rattle.bz_files.specs.declared.text.TextOut as output_trait
 use Rattle.bz_cache.specs.Format.{GivesOrFaults}
 use Rattle.bz_proc.specs.MapsFile.{AreOfText}
@@ -48,7 +48,7 @@ StopsBy stop (Ok given) = ⊥
 StopsBy stop (Err e) = e ≡ stop
 
 -- the writing of a text stopped the run, or it didn't
-abbrev pub StopsAs : Result (Unit {0}) TextError → Result (Unit {0}) Stop → Type 0
+abbrev pub StopsAs : Result (Unit {0}) IoFault → Result (Unit {0}) Stop → Type 0
 StopsAs (Ok given) result = result ≡ Ok tt
 StopsAs (Err faults.Fault) result = result ≡ Err stops.Output
 StopsAs (Err faults.OutOfMemory) result = result ≡ Err stops.Memory

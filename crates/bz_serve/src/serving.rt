@@ -14,7 +14,7 @@ mod sources;
 
 use crate::serving::replies::reply_to_request;
 use bz_base::{Error, Steps};
-use bz_files::{Files, TextError, TextOut};
+use bz_files::{Files, IoFault, TextOut};
 use bz_requests::{Config, Request};
 use bz_symbolize::Symbolizer;
 use bz_symq::{Status, new_symbolizer, write_said};
@@ -130,13 +130,13 @@ fn serve_one<W: TextOut, F: Files, L: Ledger>(
     }
 }
 
-fn stopped(put: Result<(), TextError>) -> Result<(), Stop>
+fn stopped(put: Result<(), IoFault>) -> Result<(), Stop>
     ensures { StopsAs put result }
 {
     match put {
         Ok(()) => Ok(()),
-        Err(TextError::Fault) => Err(Stop::Output),
-        Err(TextError::OutOfMemory) => Err(Stop::Memory),
+        Err(IoFault::Fault) => Err(Stop::Output),
+        Err(IoFault::OutOfMemory) => Err(Stop::Memory),
     }
 }
 

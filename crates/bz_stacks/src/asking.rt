@@ -114,7 +114,7 @@ fn fold_lookups(alloc: Global, lookups: &Lookups<'_>, stacks: &[Stack]) -> Resul
         let answers = lookups.answers_at(alloc, stack.addrs())?;
         folded.add(stack, &answers)?;
     }
-    folded.text()
+    folded.text(alloc)
 }
 
 // The text by answers that stand side by side.
@@ -131,7 +131,7 @@ fn fold_answers(alloc: Global, answers: &[Symbolized<'_>], stacks: &[Stack]) -> 
         folded.add(stack, &answers[from..to])?;
         from = to;
     }
-    folded.text()
+    folded.text(alloc)
 }
 
 // The addresses of all stacks, side by side.

@@ -52,7 +52,7 @@ impl Folded {
     }
 
     /// How many stacks were added.
-    pub fn stack_count(&self) -> u32
+    pub fn stacks(&self) -> u32
         ensures { result ≡ self.now.stacks }
     {
         self.stacks
@@ -76,13 +76,13 @@ impl Folded {
 
     /// The text: the line `PATH SUM` for each path, in the order of the paths' bytes.
     /// OutOfMemory: memory ran out.
-    pub fn text(&self) -> Result<Vec<u8>>
+    pub fn text(&self, alloc: Global) -> Result<Vec<u8>>
         ensures ok { IfOk result (λ text. text.items ≡ text_of self.now.sums) }
         ensures memory { IsOkUnless result Error.OutOfMemory }
     {
         // The map's own facts are known once it was asked for its length.
         let _count = self.sums.len();
-        text_of(self.alloc, &self.sums)
+        text_of(alloc, &self.sums)
     }
 
     // The sum at a path.

@@ -224,7 +224,7 @@ fn holds(
             put(alloc, files, "/r/a/AA/a.sym", OTHER)?;
         }
         let answered = answers(alloc, store, files, rows, letters)?;
-        if !answered || store.kept_count() != *kept || files.opens() != *opens {
+        if !answered || store.kept() != *kept || files.opens() != *opens {
             return Ok(false);
         }
     }

@@ -130,7 +130,7 @@ fn answers(alloc: Global, row: &[Answered]) -> Result<Vec<Symbolized<'static>>> 
 fn add(folded: &mut Folded, stack: &Stack, answers: &[Symbolized<'_>], count: u32) -> bool {
     stack.count() == count
         && answers.len() == stack.addrs().len()
-        && folded.stack_count() < u32::MAX
+        && folded.stacks() < u32::MAX
         && folded.add(stack, answers).is_ok()
 }
 
@@ -142,9 +142,9 @@ fn add_row(alloc: Global, folded: &mut Folded, row: &Row) -> Result<bool> {
 }
 
 /// Whether the folded stacks are so many, with this text.
-fn reads(folded: &Folded, stacks: u32, text: &str) -> bool {
-    match folded.text() {
-        Ok(written) => folded.stack_count() == stacks && written.as_slice() == text.as_bytes(),
+fn reads(alloc: Global, folded: &Folded, stacks: u32, text: &str) -> bool {
+    match folded.text(alloc) {
+        Ok(written) => folded.stacks() == stacks && written.as_slice() == text.as_bytes(),
         Err(_) => false,
     }
 }
@@ -157,7 +157,7 @@ fn read_so(alloc: Global, folded: &mut Folded, steps: &[Step]) -> bool {
                 return false;
             }
         }
-        if !reads(folded, step.1, step.2) {
+        if !reads(alloc, folded, step.1, step.2) {
             return false;
         }
     }

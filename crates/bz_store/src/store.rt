@@ -54,7 +54,7 @@ impl Store {
     }
 
     /// How many files are kept.
-    pub fn kept_count(&self) -> usize
+    pub fn kept(&self) -> usize
         ensures { result ≡ length self.now.files }
     {
         self.files.len()

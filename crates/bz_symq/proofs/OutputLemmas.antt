@@ -7,8 +7,8 @@ use Rattle.bz_base.specs.Answer.{Answer, reading}
 use Rattle.bz_base.specs.declared.types.Symbolized.{Symbolized}
 use Rattle.bz_files.specs.TextEnd.{Puts}
 use Rattle.bz_files.specs.World.{Told}
-use Rattle.bz_files.specs.declared.text.TextError.{TextError}
-use Rattle.bz_files.specs.declared.text.TextError.TheVariants as faults
+use Rattle.bz_files.specs.declared.text.IoFault.{IoFault}
+use Rattle.bz_files.specs.declared.text.IoFault.TheVariants as faults
 use Rattle.bz_files.specs.declared.text.TextOut as output_trait
 use Rattle.bz_canon.specs.AnswerText.{answer_text, answer_texts}
 use Rattle.bz_symq.specs.Outcome.{Outcome}
@@ -100,7 +100,7 @@ module _ {W : Type 0} (writes : output_trait.Ghosts W) where
       silent_on same none = wrote.silent (nothing_in piece left (sym none.1)).0 ∙ same
 
   -- the last piece is written, or the writing of a piece failed
-  pub writes_last : {A : Type 0} (result : Result A TextError) {text piece left : List ℕ} {first before after : W} → HasWritten writes text (piece ++ left) first before →
+  pub writes_last : {A : Type 0} (result : Result A IoFault) {text piece left : List ℕ} {first before after : W} → HasWritten writes text (piece ++ left) first before →
       WritesText writes piece result before after → (IsErr result ⊎ (left ≡ [])) → WritesText writes text result first after
   writes_last {A} result {text} {piece} {left} {first} {before} {after} so_far wrote last = record {
     whole = λ old told. by_whole result old (so_far.written old told) wrote.whole last;
@@ -109,7 +109,7 @@ module _ {W : Type 0} (writes : output_trait.Ghosts W) where
     counts = rw so_far.steady at wrote.counts;
   }
     where
-      by_whole : (r : Result A TextError) (old : List ℕ) → writes.written before ≡ Some (old ++ so_far.front) →
+      by_whole : (r : Result A IoFault) (old : List ℕ) → writes.written before ≡ Some (old ++ so_far.front) →
           Told (writes.written before) (λ was. OnOk r (writes.written after ≡ Some (was ++ piece))) → (IsErr r ⊎ (left ≡ [])) → OnOk r (writes.written after ≡ Some (old ++ text))
       by_whole (Err e) old told whole last = tt
       by_whole (Ok given) old told whole (inl err) = cc
@@ -117,7 +117,7 @@ module _ {W : Type 0} (writes : output_trait.Ghosts W) where
           let all : text ≡ so_far.front ++ piece = so_far.whole ∙ ap (λ rest. so_far.front ++ rest) (ap (λ rest. piece ++ rest) none ∙ append-nil piece) in
           whole (old ++ so_far.front) told ∙ ap Some (append_assoc old so_far.front piece ∙ ap (λ rest. old ++ rest) (sym all))
 
-      by_front : (r : Result A TextError) (old : List ℕ) → writes.written before ≡ Some (old ++ so_far.front) →
+      by_front : (r : Result A IoFault) (old : List ℕ) → writes.written before ≡ Some (old ++ so_far.front) →
           Told (writes.written before) (λ was. OnErr r (WritesFront piece was (writes.written after))) → OnErr r (WritesFront text old (writes.written after))
       by_front (Ok given) old told front = tt
       by_front (Err e) old told front =

@@ -2,8 +2,8 @@
 use Rattle.std.specs.Prelude.{◌≡◌, ℕ, List, [], ◌++◌, Some, Result, OnOk, OnErr, IsErrOf}
 use Rattle.bz_files.specs.Count.{CountsFaults}
 use Rattle.bz_files.specs.World.{Told}
-use Rattle.bz_files.specs.declared.text.TextError.{TextError}
-use Rattle.bz_files.specs.declared.text.TextError.TheVariants as faults
+use Rattle.bz_files.specs.declared.text.IoFault.{IoFault}
+use Rattle.bz_files.specs.declared.text.IoFault.TheVariants as faults
 use Rattle.bz_files.specs.declared.text.TextOut as output_trait
 use Rattle.bz_symq.specs.Outcome.{Outcome}
 use Rattle.bz_symq.specs.Run.{Ends, IsOrFails, WritesFront}
@@ -11,7 +11,7 @@ use Rattle.bz_symq.specs.declared.status.Status.{Status}
 use Rattle.bz_symq.specs.declared.status.Status.TheVariants as statuses
 
 -- a text was to be written
-pub record WritesText {W A : Type 0} (writes : output_trait.Ghosts W) (text : List ℕ) (result : Result A TextError) (before after : W) : Type 0 where
+pub record WritesText {W A : Type 0} (writes : output_trait.Ghosts W) (text : List ℕ) (result : Result A IoFault) (before after : W) : Type 0 where
   -- the whole text was written after what stood there
   pub whole : Told (writes.written before) (λ old. OnOk result (writes.written after ≡ Some (old ++ text)))
   -- or a front of it, where the call failed

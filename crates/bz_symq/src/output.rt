@@ -14,7 +14,7 @@ use crate::status::Status;
 use crate::texts::{Texts, push_entry};
 use bz_base::{Error, Result};
 use bz_canon::push_answer;
-use bz_files::{TextError, TextOut};
+use bz_files::{IoFault, TextOut};
 use bz_symbolize::Lookups;
 use std::alloc::Global;
 
@@ -28,8 +28,8 @@ pub fn finish<W: TextOut>(alloc: Global, output: &mut W, reply: &Reply) -> Statu
 {
     match write_said(alloc, output, &reply.said) {
         Ok(()) => reply.status,
-        Err(TextError::Fault) => Status::Fault,
-        Err(TextError::OutOfMemory) => Status::Memory,
+        Err(IoFault::Fault) => Status::Fault,
+        Err(IoFault::OutOfMemory) => Status::Memory,
     }
 }
 
@@ -38,7 +38,7 @@ pub fn write_said<W: TextOut>(
     alloc: Global,
     output: &mut W,
     said: &Said,
-) -> std::result::Result<(), TextError>
+) -> std::result::Result<(), IoFault>
     ensures { WritesText W.TextOut (text_of said.now) result output.old output.new }
 {
     match said {
@@ -55,14 +55,14 @@ fn write_answers<W: TextOut>(
     alloc: Global,
     output: &mut W,
     lookups: &Lookups<'_>,
-) -> std::result::Result<(), TextError>
+) -> std::result::Result<(), IoFault>
     ensures { WritesText W.TextOut (answer_texts lookups.now.addrs lookups.now.answers) result output.old output.new }
 {
     let mut piece = String::new(alloc);
     let mut texts = Texts::new(alloc);
     for index in 0..lookups.len() {
         let Ok(()) = push_next(alloc, &mut piece, &mut texts, lookups, index) else {
-            return Err(TextError::OutOfMemory);
+            return Err(IoFault::OutOfMemory);
         };
         if piece.len() >= WRITE_THRESHOLD {
             write_piece(output, &mut piece)?;
@@ -77,14 +77,14 @@ fn write_owned<W: TextOut>(
     alloc: Global,
     output: &mut W,
     owned: &OwnedAnswers,
-) -> std::result::Result<(), TextError>
+) -> std::result::Result<(), IoFault>
     ensures { WritesText W.TextOut (answer_texts owned.now.addrs.items (map reading owned.now.answers.items)) result output.old output.new }
 {
     let mut piece = String::new(alloc);
     let count = owned.addrs.len().min(owned.answers.len());
     for index in 0..count {
         let Ok(()) = push_answer(&mut piece, owned.addrs[index], &owned.answers[index]) else {
-            return Err(TextError::OutOfMemory);
+            return Err(IoFault::OutOfMemory);
         };
         if piece.len() >= WRITE_THRESHOLD {
             write_piece(output, &mut piece)?;
@@ -140,7 +140,7 @@ fn push_text(
 }
 
 // Writes the piece; the next one begins in the same memory.
-fn write_piece<W: TextOut>(output: &mut W, piece: &mut String) -> std::result::Result<(), TextError>
+fn write_piece<W: TextOut>(output: &mut W, piece: &mut String) -> std::result::Result<(), IoFault>
     ensures wrote { WritesText W.TextOut (string_bytes piece.old) result output.old output.new }
     ensures next { OnOk result (string_bytes piece.new ≡ []) }
 {
@@ -150,7 +150,7 @@ fn write_piece<W: TextOut>(output: &mut W, piece: &mut String) -> std::result::R
 }
 
 // Writes the whole text, in as many calls as it takes.
-fn write_all<W: TextOut>(output: &mut W, text: &[u8]) -> std::result::Result<(), TextError>
+fn write_all<W: TextOut>(output: &mut W, text: &[u8]) -> std::result::Result<(), IoFault>
     ensures { WritesText W.TextOut text.now result output.old output.new }
 {
     let mut rest = text;
