@@ -45,12 +45,12 @@ const CALLS: Row = Row {
     ..FIRST_RUN
 };
 
-/// The file of a C program, as Breakpad writes it. One address is in a call that was inlined, and of
-/// the other's function a PUBLIC record alone tells.
+/// The file of a C program, as Breakpad writes it. Of its addresses one is in a call that was inlined,
+/// one behind that call, and of the last one's function a PUBLIC record alone tells.
 const PROGRAM: Row = Row {
     edits: &[Bytes("/a.sym", BREAKPAD_PROGRAM)],
-    input: "1174\n1020\n",
-    written: "0x1174: main+0x14 start 0x1160 size 0x2a module app at /src/app/main.c:12\n  clamp at /src/app/util.h:4\n0x1020: _start+0x0 start 0x1020 size - module app at - public\n",
+    input: "1174\n1188\n1020\n",
+    written: "0x1174: main+0x14 start 0x1160 size 0x2a module app at /src/app/main.c:12\n  clamp at /src/app/util.h:4\n0x1188: main+0x28 start 0x1160 size 0x2a module app at /src/app/main.c:13\n0x1020: _start+0x0 start 0x1020 size - module app at - public\n",
     ..FIRST_RUN
 };
 

@@ -28,7 +28,8 @@ const ANSWERED: Row = Row {
     ..FIRST_RUN
 };
 
-/// Words that are no command, among them flags that are given twice.
+/// Words that are no command: among them flags that are given twice, a kind of input where there is
+/// none, and numbers that are too small or too large.
 const MISUSED: Row = Row {
     lines: &[
         &["-"],
@@ -36,6 +37,9 @@ const MISUSED: Row = Row {
         &["--help"],
         &["--bogus", "breakpad", "/s.sym"],
         &["breakpad"],
+        &["gen", "1", "0", "4"],
+        &["--input", "abs", "serve"],
+        &["process", "4294967296"],
         &["--no-code-info", "--no-code-info", "breakpad", "/s.sym"],
         &["breakpad", "/s.sym", "--no-inlined", "--no-inlined"],
         &["--no-map-files", "breakpad", "/s.sym", "--no-map-files"],
