@@ -99,7 +99,16 @@ const UNFORMED: Row = Row {
 };
 
 /// How runs end that fold nothing.
-pub(crate) static ENDINGS: [Row; 11] = [
+pub(crate) static ENDINGS: [Row; 12] = [
+    // An address without a count.
+    Row {
+        lines: &[&["stacks", "/o.sym"]],
+        input: "1\n",
+        status: Status::Input,
+        written: "input: line 1\n",
+        opens: Some(0),
+        ..STACKS
+    },
     // A line of one word, and one with a bad address. Empty lines are counted too.
     Row {
         input: "1 4\n\n4",
