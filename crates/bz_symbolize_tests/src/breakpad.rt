@@ -54,6 +54,61 @@ const LOOKED_UP: Script = &[
     ),
 ];
 
+/// Code without a module, in which nothing has a site.
+const NO_CODE: &Code = &Code {
+    module: "",
+    dir: "",
+    file: "",
+    inlined: "",
+    inlined_file: "",
+};
+
+/// PUBLIC records before a function and behind it, two of them at one address.
+const AROUND: &[u8] = b"PUBLIC 10 0 p\nPUBLIC 10 0 q\nPUBLIC 40 0 r\nFUNC 20 8 0 f\n";
+
+/// One at the start of a function.
+const AT_START: &[u8] = b"PUBLIC 20 0 s\nFUNC 20 8 0 f\n";
+
+/// One alone, at the first address.
+const AT_ZERO: &[u8] = b"PUBLIC 0 0 z\n";
+
+/// A PUBLIC record answers from its address on, up to the start of a function or to the last address.
+const PUBLICS: Script = &[
+    Put("/s.sym", AROUND),
+    Ask(
+        FILE,
+        Batch(
+            Input::FileOffset(&[0xf, 0x10, 0x1f, 0x20, 0x28, 0x3f, 0x40, 0x100]),
+            &[
+                Unknown(Reason::UnknownAddr),
+                Located(NO_CODE, "p", 0, 0, 0),
+                Located(NO_CODE, "p", 0xf, 0, 0),
+                Located(NO_CODE, "f", 0, 0, 0),
+                Unknown(Reason::UnknownAddr),
+                Unknown(Reason::UnknownAddr),
+                Located(NO_CODE, "r", 0, 0, 0),
+                Located(NO_CODE, "r", 0xc0, 0, 0),
+            ],
+        ),
+    ),
+    Put("/s.sym", AT_START),
+    Ask(
+        FILE,
+        Batch(
+            Input::FileOffset(&[0x27, 0x28]),
+            &[Located(NO_CODE, "f", 7, 0, 0), Unknown(Reason::UnknownAddr)],
+        ),
+    ),
+    Put("/s.sym", AT_ZERO),
+    Ask(
+        FILE,
+        Single(
+            Input::FileOffset(18446744073709551615),
+            Located(NO_CODE, "z", 18446744073709551615, 0, 0),
+        ),
+    ),
+];
+
 /// A function with a line record whose file has no FILE record.
 const WITHOUT_ITS_FILE: &[u8] = b"FUNC 1000 10 0 f\n1000 10 5 9\n";
 
@@ -113,11 +168,12 @@ pub(crate) fn asks_of_file(alloc: Global, files: &mut MemFiles) -> bool {
 }
 
 /// What is started with, and what is done.
-static SCRIPTS: [(Start<'static>, Script); 7] = [
+static SCRIPTS: [(Start<'static>, Script); 8] = [
     (ALL, ALONE),
     (ALL, OTHER_KIND),
     (ALL, COUNTED),
     (ALL, LOOKED_UP),
+    (ALL, PUBLICS),
     (ALL, FOLDED),
     (CODE_INFO_OFF, WITHOUT_CODE_INFO),
     (ALL, CALLED),

@@ -52,6 +52,19 @@ const COMES_BACK: Script = &[
     Ask(FILE, FROM_SECOND),
     AskStill(FILE, FROM_FIRST),
     Opens(3),
+    Ask(FILE, FROM_SECOND),
+    Opens(3),
+];
+
+/// A first read that fails leaves nothing behind: the next call reads the file and answers.
+const FAILS_AT_FIRST: Script = &[
+    Put("/s.sym", FIRST),
+    Fail(2),
+    Ask(FILE, Single(ADDRESS, Refused(Error::ReadFault))),
+    Faults(1),
+    Opens(0),
+    Ask(FILE, FROM_FIRST),
+    Opens(1),
 ];
 
 /// Other bytes under a kept stamp aren't seen.
@@ -66,7 +79,7 @@ const KEEPS_ITS_STAMP: Script = &[
 ];
 
 /// Each over new files.
-static SCRIPTS: [Script; 3] = [CHANGES, COMES_BACK, KEEPS_ITS_STAMP];
+static SCRIPTS: [Script; 4] = [CHANGES, COMES_BACK, FAILS_AT_FIRST, KEEPS_ITS_STAMP];
 
 #[test]
 fn files_answer_by_their_stamps_or_as_first_read(rt: HostRuntime) {

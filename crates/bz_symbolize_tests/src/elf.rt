@@ -2,8 +2,9 @@
 
 use crate::asking::Asked::{Batch, LookedUp, Single};
 use crate::asking::Subject::Elf;
+use crate::gsym::{Damage, damage_holds};
 use crate::lookups::Then;
-use crate::steps::Step::{Ask, Link, Opens, Put, Register};
+use crate::steps::Step::{Ask, Link, Opens, Put, PutHandedIn, Register};
 use crate::steps::{ALL, Script, hold};
 use crate::told::Told;
 use crate::told::Told::{InModule, Named, Refused, Unknown};
@@ -134,6 +135,24 @@ pub(crate) fn registers_all(
     }
 }
 
+/// The segment is at the last address, so that of its offsets the first alone has an address.
+static LAST: Damage = (
+    &ELF_FUNCTION,
+    80,
+    b"\xff\xff\xff\xff\xff\xff\xff\xff",
+    &[
+        PutHandedIn("/e"),
+        Ask(
+            Elf("/e"),
+            Single(Input::FileOffset(0x88), Unknown(Reason::InvalidFileOffset)),
+        ),
+        Ask(
+            Elf("/e"),
+            Single(Input::FileOffset(0), Unknown(Reason::UnknownAddr)),
+        ),
+    ],
+);
+
 /// Each over the files.
 static SCRIPTS: [Script; 3] = [KINDS, BATCHES, UNREAD];
 
@@ -146,4 +165,5 @@ fn calls_on_elf_files_answer_or_are_refused(rt: HostRuntime) {
             "script {index}"
         );
     }
+    assert!(rt; damage_holds(rt.alloc(), &LAST), "the last address");
 }

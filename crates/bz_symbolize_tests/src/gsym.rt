@@ -174,7 +174,7 @@ const FOLDED: Script = &[
 ];
 
 /// A file, a place in it, other bytes from there on, and what is done then.
-type Damage = (&'static [u8], usize, &'static [u8], Script);
+pub(crate) type Damage = (&'static [u8], usize, &'static [u8], Script);
 
 /// Each is damaged in one place.
 static DAMAGED: [Damage; 4] = [
@@ -187,7 +187,7 @@ static DAMAGED: [Damage; 4] = [
 ];
 
 /// Whether all is as told over the damaged file.
-fn damage_holds(alloc: Global, damage: &Damage) -> bool {
+pub(crate) fn damage_holds(alloc: Global, damage: &Damage) -> bool {
     match damaged(alloc, damage.0, damage.1, damage.2) {
         Ok(bytes) => {
             let start = Start {

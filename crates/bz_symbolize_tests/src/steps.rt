@@ -18,11 +18,11 @@ pub(crate) struct Start<'d> {
     pub(crate) code_info: bool,
     /// Whether they have inlined calls.
     pub(crate) calls: bool,
-    /// The GSYM that is handed in.
+    /// The bytes that are handed in: GSYM, or those of a file.
     pub(crate) bytes: &'d [u8],
 }
 
-/// All features are on, and no GSYM is handed in.
+/// All features are on, and nothing is handed in.
 pub(crate) const ALL: Start<'static> = Start {
     code_info: true,
     calls: true,
@@ -40,6 +40,8 @@ pub(crate) const CODE_INFO_OFF: Start<'static> = Start {
 pub(crate) enum Step {
     /// The bytes are put at the path.
     Put(&'static str, &'static [u8]),
+    /// The bytes that are handed in are put at the path.
+    PutHandedIn(&'static str),
     /// The text is put at the path.
     PutText(&'static str, &'static str),
     /// The bytes are put at the path under the stamp that it has.
@@ -152,6 +154,7 @@ fn holds_of(
         Step::Keep(kept, refused) => keeps(alloc, symbolizer, files, kept, *refused),
         Step::KeepStill(kept, refused) => keeps(alloc, still, files, kept, *refused),
         Step::Forget(kept) => forgets(alloc, symbolizer, kept),
+        Step::PutHandedIn(path) => put(alloc, files, path, bytes),
         Step::Register(rows) => registers_all(alloc, symbolizer, files, rows),
         _ => holds_of_files(alloc, files, step),
     }
