@@ -18,9 +18,18 @@ const FILES: &[File] = &[
     ("/proc/7/map_files/5000-6000", &ELF_FUNCTION),
 ];
 
+/// The first of them alone.
+const FIRST: &[File] = &[
+    (
+        "/proc/7/maps",
+        b"1000-2000 r-xp ffffffffffffffff 00:00 1 /e\n",
+    ),
+    ("/proc/7/map_files/1000-2000", &ELF_FUNCTION),
+];
+
 /// Nothing is told at an offset past 64 bits, at the last one, and at one that no segment has. The
 /// function answers.
-static OFFSETS: [Step; 4] = [
+static OFFSETS: [Step; 6] = [
     Step::Files(FILES),
     Step::Batch(
         Input::AbsAddr(&[0x1001, 0x1000, 0x3000, 0x5008]),
@@ -33,6 +42,11 @@ static OFFSETS: [Step; 4] = [
     ),
     Step::Alone(0x1001, Told::Unknown(Reason::InvalidFileOffset)),
     Step::Alone(0x1000, Told::Unknown(Reason::InvalidFileOffset)),
+    Step::Files(FIRST),
+    Step::Batch(
+        Input::AbsAddr(&[0x1001]),
+        &[Told::Unknown(Reason::InvalidFileOffset)],
+    ),
 ];
 
 #[test]
