@@ -51,7 +51,7 @@ const NO_NUMBERS: &[&[u8]] = &[
     b"FUNC 1 2 3 x\n1 1 1 a\n",
     b"FUNC 1 2 3 x\nINLINE 4294967296 1 0 5 1 1\n",
     b"FUNC 1 2 3 x\nINLINE 0 4294967296 0 5 1 1\n",
-    b"FUNC 1 2 3 x\nINLINE 0 1 4294967296 5 1 1\n",
+    b"FUNC 1 2 3 x\nINLINE 0 1 4294967296 0 1 1\n",
     b"FUNC 1 2 3 x\nINLINE 0 1 0 4294967296 1 1\n",
     b"FUNC 1 2 3 x\nINLINE 00000000001 1 0 5 1 1\n",
     b"FUNC 1 2 3 x\nINLINE 0 1 0 5 10000000000000000 1\n",
