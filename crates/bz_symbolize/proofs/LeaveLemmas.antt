@@ -1,6 +1,6 @@
 -- What a call leaves of the state, from what it does on the source's file, whatever the source and the
 -- query.
-use Rattle.std.proofs.Common.{◌≡◌, ◌⊎◌, ℕ, false, List, Some, is_some, IsSome, Result, Ok, Err, inl, inr, sym, ap, ◌∙◌}
+use Rattle.std.proofs.Common.{◌≡◌, ◌⊎◌, ℕ, false, List, Some, is_some, IsSome, Result, Ok, Err, IsErrOf, inl, inr, sym, ap, ◌∙◌}
 use Rattle.bz_base.specs.declared.error.Error.{Error}
 use Rattle.bz_base.specs.declared.error.Error.TheVariants as errors
 use Rattle.bz_base.specs.declared.types.FindSymOpts.{FindSymOpts}
@@ -65,7 +65,11 @@ module _ {A B : Type 0} (opts : FindSymOpts) (source : Source) (file : FileSourc
   memory_from_some result (inr first) = inl (unchanged first.unchanged)
 
   -- what a call leaves, whatever is told
-  pub leaves_from_some : (result : Result A Error) → (file.answering.takes query.kind ≡ false → now ≡ old) →
+  pub leaves_from_some : (result : Result A Error) → (file.answering.takes query.kind ≡ false → now ≡ old) → (IsErrOf result errors.ReadFault → now ≡ old) →
       FileSome reading (asked_of file opts query) file.path result (file.cache old) (file.cache now) → FileLeaves opts source file query result old now
-  leaves_from_some result untaken some =
-      record { one_look = step_from_some result some; on_refusal = refused_from_some result untaken some; out_of_memory = λ _. memory_from_some result some }
+  leaves_from_some result untaken fault some = record {
+    one_look = step_from_some result some;
+    on_refusal = refused_from_some result untaken some;
+    on_fault = fault;
+    out_of_memory = λ _. memory_from_some result some;
+  }

@@ -128,6 +128,8 @@ pub record FileLeaves {A B : Type 0} (opts : FindSymOpts) (source : Source) (fil
   pub one_look : (now ≡ old) ⊎ IsAfterSomeLook file old now
   -- a refusal leaves the old one, where the source refuses no kind of address after the look
   pub on_refusal : file.answering.takes query.kind ≡ file.answering.serves query.kind → LeavesOld opts source file query result old now
+  -- a failed read leaves the old one, whatever the kind of address
+  pub on_fault : IsErrOf result errors.ReadFault → now ≡ old
   -- where memory ran out, the path is kept or nothing has changed
   pub out_of_memory : IsErrOf result errors.OutOfMemory → (now ≡ old) ⊎ IsSome (kept_at (file.cache now) file.path)
 
