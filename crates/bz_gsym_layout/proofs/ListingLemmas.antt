@@ -1,6 +1,6 @@
 -- Texts and source files, each listed once: one more, and what is listed already.
 use Rattle.std.proofs.Common.{◌≡◌, ℕ, zero, suc, ◌<◌, Bool, true, false, cond, List, [], ◌∷◌, ◌++◌, length, map, Some, None, refl, sym, ap, subst, ◌∙◌, arith}
-use Rattle.std.specs.Prelude.{◌==◌, ◌&&◌, ◌||◌, IfOk, OnOk, Result, Ok, Err}
+use Rattle.std.specs.Prelude.{◌==◌, ◌&&◌, ◌||◌, IfOk, Result, Ok, Err}
 use Rattle.std.specs.BTreeMap as btree
 use Rattle.std.specs.Borrow.{Bor}
 use Rattle.std.specs.HashMap.{get}
@@ -168,10 +168,6 @@ module _ (s : Sources) (has : HasFileIndexes s) (file : SourceFile) (new : Sourc
 pub if_ok : {A E : Type 0} (r : Result A E) (P Q : A → Type 0) → ((a : A) → P a → Q a) → IfOk r P → IfOk r Q
 if_ok (Ok a) P Q then is = then a is
 if_ok (Err e) P Q then is = is
-
-pub two_ok : {A E : Type 0} (r : Result A E) (P Q R : Type 0) → (P → Q → R) → OnOk r P → OnOk r Q → OnOk r R
-two_ok (Ok a) P Q R then p q = then p q
-two_ok (Err e) P Q R then p q = p
 
 pub seen_at : {X Y : Type 0} (view : X → Y) (xs : List X) (i : ℕ) (x : X) → slice_get xs i ≡ Some x → slice_get (map view xs) i ≡ Some (view x)
 seen_at view [] i x at = absurd (none-some x at)
