@@ -51,8 +51,18 @@ module _ {A B : Type 0} (reading : A → B) (query : Query B) (old now : State) 
 
   leaves_read : (opts : FindSymOpts) (source : Source) (file : FileSource) (result : Result A Error) →
       FileLeaves opts source file query result old now → FileLeaves opts source file query (as_read reading result) old now
-  leaves_read opts source file (Ok given) left = record { one_look = left.one_look; on_refusal = left.on_refusal; out_of_memory = λ ran. left.out_of_memory (refusal_back reading errors.OutOfMemory (Ok given) ran) }
-  leaves_read opts source file (Err e) left = record { one_look = left.one_look; on_refusal = left.on_refusal; out_of_memory = λ ran. left.out_of_memory (refusal_back reading errors.OutOfMemory (Err e) ran) }
+  leaves_read opts source file (Ok given) left = record {
+    one_look = left.one_look;
+    on_refusal = left.on_refusal;
+    on_fault = λ failed. left.on_fault (refusal_back reading errors.ReadFault (Ok given) failed);
+    out_of_memory = λ ran. left.out_of_memory (refusal_back reading errors.OutOfMemory (Ok given) ran);
+  }
+  leaves_read opts source file (Err e) left = record {
+    one_look = left.one_look;
+    on_refusal = left.on_refusal;
+    on_fault = λ failed. left.on_fault (refusal_back reading errors.ReadFault (Err e) failed);
+    out_of_memory = λ ran. left.out_of_memory (refusal_back reading errors.OutOfMemory (Err e) ran);
+  }
 
 module _ {A B X : Type 0} (files : Ghosts X) (reading : A → B) (source : Source) (query : Query B) (old now : State) (before after : X) where
   pub call_read : (result : Result A Error) → Symbolizes files reading source query result old now before after → Symbolizes files as_is source query (as_read reading result) old now before after
