@@ -1,6 +1,6 @@
 //! Readers and writers in memory.
 
-use bz_files::{MemIn, MemOut, IoFault, TextIn, TextOut};
+use bz_files::{IoFault, MemIn, MemOut, TextIn, TextOut};
 use std::alloc::Global;
 
 /// Whether a text comes in pieces of three bytes, with a failure in between.

@@ -1,6 +1,6 @@
 //! Readers and writers of the system.
 
-use bz_files::{RealIn, RealOut, IoFault, TextIn, TextOut};
+use bz_files::{IoFault, RealIn, RealOut, TextIn, TextOut};
 use std::alloc::Global;
 use std::io::{self, ErrorKind, Read, Write};
 
