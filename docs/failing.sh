@@ -120,13 +120,6 @@ printf 'breakpad app.sym 1174 1020\nsingle gsym app.gsym 1174\ncache elf %s\nevi
 both serve
 head -n 3 walk.stacks > input
 both stacks walk.sym
-# A process that stands still, and an address of its program's code.
-sleep 1000 &
-sleeper=$!
-trap 'kill "$sleeper"; rm -rf "$folder"' EXIT
-while ! grep -q '/sleep$' "/proc/$sleeper/maps"; do sleep 0.1; done
-grep 'r-xp.*/sleep$' "/proc/$sleeper/maps" | cut -d- -f1 > input
-both process "$sleeper"
 mkdir -p store/app.so/AA && cp app.sym store/app.so/AA/app.so.sym
 printf 'app.so AA 1174\napp.so BB 1174\n' > input
 both frames store

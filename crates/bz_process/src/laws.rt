@@ -48,9 +48,9 @@ pub fn paths_are_as_looked()
 
 /// Take a dispatcher that gives no resolver and refuses nothing. Let the kept versions that the
 /// addresses use cohere with the world in view. What is in view when the call begins then answers each
-/// address alone, in a batch and by itself. In a batch a refusal is an ignored error. So entries stand alone, and addresses in
-/// another order have their answers in that order. An entry is the answer of the single call or folds
-/// its refusal.
+/// address alone, in a batch and by itself. In a batch a refusal is an ignored error. So entries stand
+/// alone, and addresses in another order have their answers in that order. An entry is the answer of
+/// the single call or folds its refusal.
 pub fn entries_are_in_view<D: ProcessDispatch + Drop, F: Files, A>()
     ensures batch { (call : BatchCalled A F.Files D.may_dispatch D.Resolver.TranslateFileOffset D.Resolver.Symbolize) (world : World) →
         SymbolizesBatch call → GoesByView world call call.input → IfOk call.result (λ answers. call.reading answers ≡ map (entry_in_view world call) call.input) }
