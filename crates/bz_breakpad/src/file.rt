@@ -18,7 +18,7 @@ ghost use Rattle.bz_breakpad.specs.Probes.{AreFewProbes, AreFewSteps};
 ghost use Rattle.bz_breakpad.specs.Resolver.{IsPlain};
 ghost use Rattle.bz_breakpad.specs.Searched.{IsSearched};
 ghost use Rattle.bz_breakpad_function.specs.InOrder.{functions_in_order};
-ghost use Rattle.bz_breakpad_function.specs.Indexed.{function_in, functions_in};
+ghost use Rattle.bz_breakpad_function.specs.Indexed.{functions_in};
 ghost use Rattle.bz_breakpad_function.specs.Locations.{IsAnswerRefusal};
 ghost use Rattle.bz_breakpad_lines.specs.Grammar.{Accepted, IsFile};
 ghost use Rattle.bz_breakpad_lines.specs.Names.{name_for};
@@ -190,13 +190,13 @@ impl SymbolFile {
         ensures step { steps.new ≡ steps.old + 1 }
     {
         steps.tick();
-        self.function_in_file(self.table.code.keys[index].index)
+        self.function_in_file(self.table.code.keys[index].index as usize)
     }
 
     /// The function at an index, in the order of the file.
-    fn function_in_file(&self, index: u32) -> Function<'_>
+    pub fn function_in_file(&self, index: usize) -> Function<'_>
         requires { index < length (functions_in self.now) }
-        ensures { result ≡ function_in self.now index }
+        ensures { slice_get (functions_in self.now) index ≡ Some result }
     {
         Function::new(self.bytes.as_slice(), &self.table, index)
     }
@@ -234,7 +234,7 @@ impl SymbolFile {
     {
         let place = place_found(nearest(&self.starts, addr, steps));
         let index = function_index(&self.table, place, addr)?;
-        Some(self.function_in_file(index))
+        Some(self.function_in_file(index as usize))
     }
 
     /// What is searched for addresses.

@@ -13,7 +13,7 @@ mod symbol;
 mod types;
 mod version;
 
-pub use bz_breakpad_function::{Function, Inlinee};
+pub use bz_breakpad_function::{Function, Inlinee, LineIter};
 pub use bz_breakpad_lines::SourceLine;
 pub use file::{SymbolFile, SymbolParser};
 pub use found::FoundRecord;

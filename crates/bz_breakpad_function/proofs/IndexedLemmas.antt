@@ -47,6 +47,11 @@ unfolding function_in
 function_is bytes table index f is there =
     ap (λ (o : Option Table). slice_index_or (functions_of o) index no_function) is ∙ get_or_from_slice_get table.functions index f no_function there
 
+-- and it stands there
+pub listed_in_file : (bytes : List ℕ) (index : ℕ) → index < length (functions_in bytes) → slice_get (functions_in bytes) index ≡ Some (function_in bytes index)
+unfolding function_in
+listed_in_file bytes index within = slice_get-get_or (functions_in bytes) index no_function within
+
 -- a function of the file is kept so
 pub kept_in_file : (bytes : List ℕ) (table : Table) (kept : KeptTable) → table_in bytes ≡ Some table → StandsFor bytes table kept → (index : ℕ) →
     index < length (functions_in bytes) → (f : KeptFunction) → f ≡ get_or kept.code.functions.items index f → IsKeptFunction bytes kept.code f index

@@ -1,10 +1,10 @@
 -- A run at the front of a text: its lines are the same in the whole text,
 -- and so are those of its parts.
-use Rattle.std.proofs.Common.{◌≡◌, ℕ, zero, suc, ◌+◌, ◌-◌, ◌<◌, ◌≤◌, true, false, Bool, cond, not, nat_eq, List, [], ◌∷◌, length, take, drop, option_map, Option, IsSome, refl, sym, ap, subst, ◌∙◌, arith, length-drop}
+use Rattle.std.proofs.Common.{◌≡◌, ℕ, zero, suc, ◌+◌, ◌-◌, ◌<◌, ◌≤◌, true, false, Bool, cond, not, nat_eq, List, [], ◌∷◌, length, take, drop, option_map, Option, IsSome, refl, sym, ap, subst, ◌∙◌, arith, inl, inr, length-drop}
 use Rattle.std.specs.List.{prefix_len}
 use Rattle.std.specs.Prelude.{slice_index, unwrap_or}
-use Rattle.std.proofs.lemmas.Bool.{eqb-true}
-use Rattle.std.proofs.lemmas.List.{drop-drop, get_or-drop, get_or-take, length-take-le, take_all, take-take}
+use Rattle.std.proofs.lemmas.Bool.{cases_lt, eqb-true}
+use Rattle.std.proofs.lemmas.List.{drop-drop, get_or-drop, get_or-take, length-take-le, take-take}
 use Rattle.std.proofs.lemmas.List.Sums.{prefix_len_stops}
 use Rattle.bz_base.specs.Bind.{◌>>=◌}
 use Rattle.bz_base.specs.Byte.{line_feed}
@@ -14,12 +14,12 @@ use Rattle.bz_breakpad_lines.specs.Line.{line_front, line_in, source_line}
 use Rattle.bz_breakpad_table.specs.Kept.{IsRunAt, text_at}
 use Rattle.bz_breakpad_table.specs.LineRun.{IsCut, IsLineRun, IsRunFront}
 use Rattle.bz_breakpad_table.specs.declared.types.Part.{Part}
-use Rattle.bz_breakpad_lines.specs.LineStarts.{line_start, no_line}
+use Rattle.bz_breakpad_lines.specs.LineStarts.{ReadsLine, line_start, no_line}
 use Rattle.bz_breakpad_lines.specs.Reads.{form_at}
 use Rattle.bz_breakpad_lines.specs.Records.{LINE}
 use Rattle.bz_breakpad_lines.specs.Table.{SourceLine}
 use Rattle.bz_breakpad_lines.proofs.LaneLemmas.{front_from}
-use Rattle.bz_breakpad_table.proofs.RunLemmas.{back_decides, back_run, candidate_in, front_decides, front_run, read_at_cut}
+use Rattle.bz_breakpad_table.proofs.RunLemmas.{back_decides, back_run, candidate_in, front_decides, front_run, read_at_cut, reads_first}
 
 -- the first line is the same in a front that ends with a line feed
 front_same : (n : ℕ) (text : List ℕ) → n < length text → slice_index text n ≡ line_feed → line_front (take (suc n) text) ≡ line_front text
@@ -55,15 +55,13 @@ run_in_front text len within run some ends = record {
   same = same_in_front text len within (sym (get_or-take len text (len - 1) 0 (omega (arith, some))) ∙ ends);
 }
 
--- a run and nothing after it
-run_alone : (text : List ℕ) → IsLineRun text → IsRunFront text (length text)
-run_alone text run =
-    let all : take (length text) text ≡ text = take_all (length text) text (omega arith) in
-    record {
-      within = omega arith;
-      run = subst IsLineRun (sym all) run;
-      same = λ place before. ap (λ t. line_in (drop place t)) all;
-    }
+-- no bytes are a run
+pub no_front : (text : List ℕ) → IsRunFront text 0
+no_front text = record {
+  within = omega arith;
+  run = record { read = tt; ascend = λ i j below within. absurd (omega (arith, within)) };
+  same = λ place before. absurd (omega (arith, before));
+}
 
 module _ (bytes : List ℕ) (run : Part) (at : IsRunAt bytes run) where
   run_room : run.to - run.from ≤ length (drop run.from bytes)
@@ -72,16 +70,20 @@ module _ (bytes : List ℕ) (run : Part) (at : IsRunAt bytes run) where
   run_long : length (text_at bytes run) ≡ run.to - run.from
   run_long = length-take-le (run.to - run.from) (drop run.from bytes) run_room
 
-  -- a run at a part of the bytes, with what comes after it, where its last line has its line feed
-  pub run_and_rest : 0 < length (text_at bytes run) → slice_index (text_at bytes run) (length (text_at bytes run) - 1) ≡ line_feed →
-      IsRunFront (drop run.from bytes) (run.to - run.from)
-  run_and_rest some ends =
-      run_in_front (drop run.from bytes) (run.to - run.from) run_room at.run (omega (arith, some, run_long))
-      (ap (λ k. slice_index (text_at bytes run) (k - 1)) (sym run_long) ∙ ends)
+  -- a run at a part of the bytes, with what comes after it
+  pub run_and_rest : IsRunFront (drop run.from bytes) (run.to - run.from)
+  run_and_rest =
+      elim (cases_lt 0 (run.to - run.from)) [
+        | inl some ↦ run_in_front (drop run.from bytes) (run.to - run.from) run_room at.run some
+            (ap (λ k. slice_index (text_at bytes run) (k - 1)) (sym run_long) ∙ at.ended (omega (arith, some, run_long)))
+        | inr none ↦ subst (IsRunFront (drop run.from bytes)) (omega (arith, none)) (no_front (drop run.from bytes))
+      ]
 
-  -- and without it
-  pub run_by_itself : IsRunFront (text_at bytes run) (run.to - run.from)
-  run_by_itself = subst (IsRunFront (text_at bytes run)) run_long (run_alone (text_at bytes run) at.run)
+-- at the front of a run a line record is read
+pub read_first : (text : List ℕ) (len : ℕ) → IsRunFront text len → 0 < len → ReadsLine text 0
+read_first text len front some =
+    subst (λ (o : Option SourceLine). IsSome o) (front.same 0 some)
+    (reads_first (take len text) (omega (arith, some, length-take-le len text front.within)) front.run.read)
 
 module _ (text : List ℕ) (len : ℕ) (is_front : IsRunFront text len) where
   abbrev run_text : List ℕ

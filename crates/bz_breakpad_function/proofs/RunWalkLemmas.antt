@@ -14,14 +14,6 @@ use Rattle.bz_breakpad_table.specs.LineRun.{IsCut, IsRunFront, lines_in}
 use Rattle.bz_breakpad_table.proofs.RunLemmas.{lines_cut, only_is}
 use Rattle.bz_breakpad_function.proofs.RunFrontLemmas.{back_front, cut_first, few_lines, front_front_run}
 
--- no bytes are a run
-pub no_front : (text : List ℕ) → IsRunFront text 0
-no_front text = record {
-  within = omega arith;
-  run = record { read = tt; ascend = λ i j below within. absurd (omega (arith, within)) };
-  same = λ place before. absurd (omega (arith, before));
-}
-
 -- bytes up to a line feed, and no further, are one line record
 pub one_line : (text : List ℕ) (len : ℕ) → IsRunFront text len → 0 < len → len ≤ suc (prefix_len (λ b. not (nat_eq b line_feed)) text) →
     lines_in (take len text) ≡ line_read text 0 ∷ []

@@ -1,4 +1,5 @@
 pub mod InOrder
 pub mod Indexed
 pub mod Lent
+pub mod LinesLeft
 pub mod Locations

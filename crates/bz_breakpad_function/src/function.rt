@@ -17,11 +17,12 @@ ghost use Rattle.bz_breakpad_table.specs.Sorted.{StandsFor};
 ghost use Rattle.bz_breakpad_table.specs.declared.types.CallRange.{CallRange};
 
 use crate::calls::inlinee_of;
+use crate::line_iter::LineIter;
 use crate::line_run::Cuts;
 use crate::locations::{calls_around, inlinees_of, line_of};
 use crate::types::Inlinee;
 use crate::walks::{
-    all_inlinees, all_lines, inlinee_at_index, line_at_index, line_count, line_text,
+    all_inlinees, all_lines, inlinee_at_index, line_at_index, line_count, line_iter, line_text,
 };
 use bz_base::{Addr, Error, Result, around_in};
 use bz_breakpad_lines::SourceLine;
@@ -37,7 +38,7 @@ pub struct Function<'a> {
     code: &'a FunctionTable,
     kept: &'a KeptFunction,
     /// Its index in the order of the file, by which contracts know the function.
-    index: u32,
+    index: usize,
 }
 
 impl<'a> Model for Function<'a> {
@@ -53,7 +54,7 @@ impl<'a> Model for Function<'a> {
 
 impl<'a> Function<'a> {
     /// The function of an index in the order of a file, by the file's bytes and what is kept of them.
-    pub fn new(bytes: &'a [u8], kept: &'a KeptTable, index: u32) -> Function<'a>
+    pub fn new(bytes: &'a [u8], kept: &'a KeptTable, index: usize) -> Function<'a>
         requires stands { (table : Table) × (table_in bytes.now ≡ Some table) × StandsFor bytes.now table kept.now }
         requires within { index < length (functions_in bytes.now) }
         ensures { result ≡ function_in bytes.now index }
@@ -61,7 +62,7 @@ impl<'a> Function<'a> {
         Function {
             bytes,
             code: &kept.code,
-            kept: &kept.code.functions[index as usize],
+            kept: &kept.code.functions[index],
             index,
         }
     }
@@ -118,6 +119,14 @@ impl<'a> Function<'a> {
     {
         let lines = all_lines(alloc, self.bytes, self.code, self.kept)?;
         Ok(lines)
+    }
+
+    /// The line records one after another, in the order of start and size; those that are alike in both
+    /// stand as in the file.
+    pub fn iter_lines(&self) -> LineIter<'a>
+        ensures { result ≡ lines_in_order self.now }
+    {
+        line_iter(self.bytes, self.code, self.kept)
     }
 
     /// The text of its line records, if they are known to stand in the file one after another, each

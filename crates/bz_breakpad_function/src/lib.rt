@@ -3,6 +3,7 @@
 
 mod calls;
 mod function;
+mod line_iter;
 mod line_run;
 mod lines;
 mod locations;
@@ -10,6 +11,7 @@ mod types;
 mod walks;
 
 pub use function::Function;
+pub use line_iter::LineIter;
 pub use line_run::{Cuts, Guess};
 pub use locations::{Location, location_at};
 pub use types::Inlinee;

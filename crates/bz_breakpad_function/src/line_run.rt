@@ -1,8 +1,7 @@
 //! The search in a run: line records that stand one after another in a file, each starting after the
 //! one before it. Hints say where a run is likely to be cut.
 
-ghost use Rattle.std.specs.Prelude.{◌≡◌, ◌≤◌, ◌<◌, ◌-◌, length, take, slice_index, true, option_map, IfSome, IfNone};
-ghost use Rattle.bz_base.specs.Byte.{line_feed};
+ghost use Rattle.std.specs.Prelude.{◌≡◌, ◌≤◌, ◌-◌, length, take, true, option_map, IfSome, IfNone};
 ghost use Rattle.bz_base.specs.Line.{all_lines};
 ghost use Rattle.bz_base.specs.Nearest.{nearest_covering};
 ghost use Rattle.bz_breakpad_lines.specs.Told.{line_seen};
@@ -47,27 +46,13 @@ pub(crate) fn line_in_run(bytes: &[u8], run: &Part, hints: Cuts, addr: Addr) -> 
 }
 
 /// A run with what stands after it in the bytes, since a load of its last line shows more bytes.
-/// The run alone, if that line has no end.
 #[inline(always)]
 pub(crate) fn run_front<'a>(bytes: &'a [u8], run: &Part) -> &'a [u8]
     requires { IsRunAt bytes.now run.now }
     ensures front { IsRunFront result.now (run.now.to - run.now.from) }
     ensures text { take (run.now.to - run.now.from) result.now ≡ text_at bytes.now run.now }
 {
-    let text = &bytes[run.from as usize..run.to as usize];
-    if ends_line(text) {
-        &bytes[run.from as usize..]
-    } else {
-        text
-    }
-}
-
-/// Whether the last line has its line feed.
-#[inline(always)]
-fn ends_line(text: &[u8]) -> bool
-    ensures { result ≡ true → (0 < length text.now) × (slice_index text.now (length text.now - 1) ≡ line_feed) }
-{
-    !text.is_empty() && text[text.len() - 1] == b'\n'
+    &bytes[run.from as usize..]
 }
 
 /// The line record that answers for the address, of a run that is so many bytes of the text.

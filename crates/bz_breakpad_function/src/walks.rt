@@ -1,22 +1,23 @@
 //! The records of a function, one after another in their order.
 
-ghost use Rattle.std.specs.Prelude.{◌≡◌, ◌≤◌, ◌<◌, ◌-◌, ◌∷◌, Some, drop, length, map, slice_get, take, IfOk, IfSome};
+ghost use Rattle.std.specs.Prelude.{◌≡◌, ◌<◌, ◌-◌, Some, drop, length, map, slice_get, IfOk, IfSome};
 ghost use Rattle.std.specs.List.{AllByRecursion};
 ghost use Rattle.bz_base.specs.Line as base;
 ghost use Rattle.bz_breakpad_function.specs.InOrder.{IsTextOfLines};
 ghost use Rattle.bz_breakpad_function.specs.Lent.{inlinee_seen};
 ghost use Rattle.bz_breakpad_lines.specs.LineStarts.{ReadsLine};
 ghost use Rattle.bz_breakpad_lines.specs.Told.{line_seen};
-ghost use Rattle.bz_breakpad_table.specs.Kept.{IsRunAt, function_seen, kept_call, kept_lines, text_at};
-ghost use Rattle.bz_breakpad_table.specs.LineRun.{AreLineRecords, IsRunFront, lines_in};
+ghost use Rattle.bz_breakpad_table.specs.Kept.{function_seen, kept_call, kept_lines};
+ghost use Rattle.bz_breakpad_table.specs.LineRun.{AreLineRecords, lines_in};
 ghost use Rattle.bz_breakpad_table.specs.Search.{IsFunction};
 
 use crate::calls::inlinee_of;
-use crate::line_run::{LINE_LEN, run_front};
+use crate::line_iter::LineIter;
+use crate::line_run::LINE_LEN;
 use crate::types::Inlinee;
 use bz_base::first_line;
-use bz_breakpad_lines::{SourceLine, line_or_zeros, line_record_at, next_line_record};
-use bz_breakpad_table::{CallRange, FunctionTable, KeptFunction, LineRecords, Part};
+use bz_breakpad_lines::{SourceLine, line_or_zeros};
+use bz_breakpad_table::{CallRange, FunctionTable, KeptFunction, LineRecords};
 use std::alloc::{AllocError, Global};
 
 /// How many line records the function has.
@@ -74,6 +75,24 @@ pub(crate) fn line_text<'a>(
     }
 }
 
+/// The line records of the function, one after another in their order.
+pub(crate) fn line_iter<'a>(
+    bytes: &'a [u8],
+    code: &'a FunctionTable,
+    function: &KeptFunction,
+) -> LineIter<'a>
+    requires { IsFunction bytes.now code.now function.now }
+    ensures { result ≡ (function_seen bytes.now code.now function.now).lines }
+{
+    match function.lines {
+        LineRecords::Run(part) => LineIter::of_run(bytes, &part),
+        LineRecords::Listed(part) => {
+            let places = &code.lines[part.from as usize..part.to as usize];
+            LineIter::of_places(bytes, places)
+        }
+    }
+}
+
 /// The line records of the function, in their order.
 pub(crate) fn all_lines(
     alloc: Global,
@@ -84,12 +103,18 @@ pub(crate) fn all_lines(
     requires { IsFunction bytes.now code.now function.now }
     ensures { IfOk result (λ lines. map line_seen lines.items ≡ (function_seen bytes.now code.now function.now).lines) }
 {
+    let mut lines = Vec::with_capacity(alloc, likely_line_count(function))?;
+    for line in line_iter(bytes, code, function) {
+        lines.push(line)?;
+    }
+    Ok(lines)
+}
+
+/// About how many line records the function has.
+fn likely_line_count(function: &KeptFunction) -> usize {
     match function.lines {
-        LineRecords::Run(part) => lines_of_run(alloc, bytes, &part),
-        LineRecords::Listed(part) => {
-            let places = &code.lines[part.from as usize..part.to as usize];
-            lines_of_places(alloc, bytes, places)
-        }
+        LineRecords::Run(part) => part.to.saturating_sub(part.from) as usize / LINE_LEN + 1,
+        LineRecords::Listed(part) => part.to.saturating_sub(part.from) as usize,
     }
 }
 
@@ -121,83 +146,6 @@ pub(crate) fn all_inlinees(
         calls.push(inlinee_of(bytes, range))?;
     }
     Ok(calls)
-}
-
-/// The line records of a run in a part of the bytes.
-fn lines_of_run(alloc: Global, bytes: &[u8], run: &Part) -> Result<Vec<SourceLine>, AllocError>
-    requires { IsRunAt bytes.now run.now }
-    ensures { IfOk result (λ lines. map line_seen lines.items ≡ lines_in (text_at bytes.now run.now)) }
-{
-    let len = (run.to - run.from) as usize;
-    lines_in_front(alloc, run_front(bytes, run), len)
-}
-
-/// The line records of a run that is so many bytes of the text.
-fn lines_in_front(alloc: Global, text: &[u8], len: usize) -> Result<Vec<SourceLine>, AllocError>
-    requires { IsRunFront text.now len }
-    ensures { IfOk result (λ lines. map line_seen lines.items ≡ lines_in (take len text.now)) }
-{
-    let mut lines = Vec::with_capacity(alloc, len / LINE_LEN + 1)?;
-    let mut rest = text;
-    let mut left = len;
-    while left > 0 {
-        let first = first_of_run(rest, left);
-        lines.push(first.line)?;
-        rest = &rest[first.len..];
-        left -= first.len;
-    }
-    Ok(lines)
-}
-
-/// The first line of a run.
-#[derive(Clone, Copy)]
-struct FirstOfRun {
-    /// Its record.
-    line: SourceLine,
-    /// How many bytes it takes, with its end.
-    len: usize,
-}
-
-/// The first line of a run that is so many bytes of the text.
-#[inline(always)]
-fn first_of_run(text: &[u8], len: usize) -> FirstOfRun
-    requires run { IsRunFront text.now len }
-    requires positive { 0 < len }
-    ensures lines { lines_in (take len text.now) ≡ line_seen result.line ∷ lines_in (take (len - result.len) (drop result.len text.now)) }
-    ensures rest { IsRunFront (drop result.len text.now) (len - result.len) }
-    ensures positive { 0 < result.len }
-    ensures within { result.len ≤ len }
-{
-    let next = next_line_record(text);
-    let end = next.end + 1;
-    if end < len {
-        FirstOfRun {
-            line: next.line,
-            len: end,
-        }
-    } else {
-        FirstOfRun {
-            line: next.line,
-            len,
-        }
-    }
-}
-
-/// The line records that begin at places in the bytes.
-fn lines_of_places(
-    alloc: Global,
-    bytes: &[u8],
-    places: &[usize],
-) -> Result<Vec<SourceLine>, AllocError>
-    ensures { IfOk result (λ lines. map line_seen lines.items ≡ kept_lines bytes.now places.now) }
-{
-    let mut lines = Vec::with_capacity(alloc, places.len())?;
-    for place in places {
-        if let Some(line) = line_record_at(bytes, *place) {
-            lines.push(line)?;
-        }
-    }
-    Ok(lines)
 }
 
 /// The line record at an index of those that the lines of a text are.

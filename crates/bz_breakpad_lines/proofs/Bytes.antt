@@ -2,7 +2,7 @@
 use Rattle.std.proofs.Common.{◌≡◌, ℕ, Bool, true, false, ◌||◌, List, [], ◌∷◌, nat_eq, inl, inr, refl, sym, subst, ◌∙◌}
 use Rattle.std.proofs.lemmas.Bool.{or_cases, or_from, eqb-true, true≢false, false_from_ne_true}
 use Rattle.bz_base.specs.Byte.{space, tab, is_blank, begins_with}
-use Rattle.bz_breakpad_lines.specs.Byte.{is_hex, is_decimal}
+use Rattle.bz_breakpad_lines.specs.Byte.{is_hex, is_decimal, is_past_space}
 
 -- a fact of the two blanks holds of each blank
 at_blanks : (P : ℕ → Type 0) → P space → P tab → (b : ℕ) → is_blank b ≡ true → P b
@@ -17,6 +17,9 @@ blank_no_hex = at_blanks (λ b. is_hex b ≡ false) refl refl
 
 pub blank_no_decimal : (b : ℕ) → is_blank b ≡ true → is_decimal b ≡ false
 blank_no_decimal = at_blanks (λ b. is_decimal b ≡ false) refl refl
+
+pub blank_not_past : (b : ℕ) → is_blank b ≡ true → is_past_space b ≡ false
+blank_not_past = at_blanks (λ b. is_past_space b ≡ false) refl refl
 
 -- two kinds of bytes that have none in common
 pub other_way : (f g : ℕ → Bool) → ((b : ℕ) → f b ≡ true → g b ≡ false) → (b : ℕ) → g b ≡ true → f b ≡ false

@@ -28,7 +28,7 @@ bits_from test (suc k) (b ∷ text) =
     ap (λ e. n / 2 ^ e) more ∙ sym (shr-shr n 1 k) ∙ ap (λ h. h / 2 ^ k) (half_of (test b) m) ∙ bits_from test k text
 
 -- a run that ends within the front ends there in the whole
-run_in_front : (p : ℕ → Bool) (n : ℕ) (text : List ℕ) → n ≤ length text → prefix_len p (take n text) < n →
+pub run_in_front : (p : ℕ → Bool) (n : ℕ) (text : List ℕ) → n ≤ length text → prefix_len p (take n text) < n →
     prefix_len p text ≡ prefix_len p (take n text)
 run_in_front p n text within ends =
     let front = take n text in
@@ -37,7 +37,7 @@ run_in_front p n text within ends =
     ∙ cond-false _ _ _ (ne_eqb (prefix_len p front) (length front) (λ same. omega (arith, long)))
 
 -- where a byte fails, the run ends before the text does
-run_ends : (p : ℕ → Bool) (text : List ℕ) → 0 < mask_l (map (λ b. not (p b)) text) → prefix_len p text < length text
+pub run_ends : (p : ℕ → Bool) (text : List ℕ) → 0 < mask_l (map (λ b. not (p b)) text) → prefix_len p text < length text
 run_ends p [] some = absurd (omega arith)
 run_ends p (b ∷ text) some = step (p b) (mask_l (map (λ c. not (p c)) text)) (prefix_len p text) (length text) (run_ends p text) some where
   step : (test : Bool) (m n l : ℕ) → (0 < m → n < l) → 0 < cond (not test) 1 0 + 2 * m → cond test (1 + n) 0 < suc l

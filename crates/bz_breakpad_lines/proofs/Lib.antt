@@ -3,12 +3,14 @@ pub mod AsciiLemmas
 pub mod AtPlaceLemmas
 pub mod Bytes
 pub mod ChoiceLaws
+pub mod FieldEndLemmas
 pub mod FieldLemmas
 pub mod FoldLaws
 pub mod FormLaws
 pub mod GrammarLaws
 pub mod Kept
 pub mod LaneLemmas
+pub mod LineFieldLemmas
 pub mod LineFrontLemmas
 pub mod NameLemmas
 pub mod Pieces
@@ -18,6 +20,7 @@ pub mod QuickLemmas
 pub mod RoleLaws
 pub mod Rows
 pub mod Runs
+pub mod ShortValueLemmas
 pub mod StartLemmas
 pub mod TableLaws
 pub mod Turns

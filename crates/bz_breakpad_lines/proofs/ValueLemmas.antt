@@ -16,12 +16,12 @@ use Rattle.bz_breakpad_lines.proofs.StartLemmas.{AreBytes, bytes_past, digit_byt
 -- Bytes side by side, each on its own.
 
 -- the number of so many bytes, each of which is the mask
-abbrev masks_after : ℕ → ℕ → List ℕ → ℕ
+abbrev pub masks_after : ℕ → ℕ → List ℕ → ℕ
 masks_after mask n [] = n
 masks_after mask n (b ∷ bytes) = masks_after mask (n * 256 + mask) bytes
 
 -- the mask is laid on each byte of a number at once
-masked : (mask : ℕ) → mask < 256 → (bytes : List ℕ) (m c : ℕ) → AreBytes bytes →
+pub masked : (mask : ℕ) → mask < 256 → (bytes : List ℕ) (m c : ℕ) → AreBytes bytes →
     bit_and (number_from_digits_after 256 m bytes) (masks_after mask c bytes) ≡ number_from_digits_after 256 (bit_and m c) (map (λ b. bit_and b mask) bytes)
 masked mask small [] m c are = refl
 masked mask small (b ∷ bytes) m c are =
@@ -29,14 +29,14 @@ masked mask small (b ∷ bytes) m c are =
     ∙ ap (λ n. number_from_digits_after 256 n (map (λ b. bit_and b mask) bytes)) (and_block 8 m c b mask are.0 small)
 
 -- what each byte gives is multiplied in the number
-scaled : (k : ℕ) (f g : ℕ → ℕ) (bytes : List ℕ) (m n : ℕ) → ((b : ℕ) → b < 256 → f b ≡ k * g b) → AreBytes bytes → m ≡ k * n →
+pub scaled : (k : ℕ) (f g : ℕ → ℕ) (bytes : List ℕ) (m n : ℕ) → ((b : ℕ) → b < 256 → f b ≡ k * g b) → AreBytes bytes → m ≡ k * n →
     number_from_digits_after 256 m (map f bytes) ≡ k * number_from_digits_after 256 n (map g bytes)
 scaled k f g [] m n each are is = is
 scaled k f g (b ∷ bytes) m n each are is =
     scaled k f g bytes (m * 256 + f b) (n * 256 + g b) each are.1 (omega (arith, each b are.0, is))
 
 -- and added
-added : (f g : ℕ → ℕ) (bytes : List ℕ) (m n : ℕ) →
+pub added : (f g : ℕ → ℕ) (bytes : List ℕ) (m n : ℕ) →
     number_from_digits_after 256 m (map f bytes) + 9 * number_from_digits_after 256 n (map g bytes) ≡ number_from_digits_after 256 (m + 9 * n) (map (λ b. f b + 9 * g b) bytes)
 added f g [] m n = refl
 added f g (b ∷ bytes) m n =
@@ -48,29 +48,29 @@ added f g (b ∷ bytes) m n =
 abbrev pub dec_of : ℕ → ℕ
 dec_of b = bit_and b 15
 
-abbrev letter_of : ℕ → ℕ
+abbrev pub letter_of : ℕ → ℕ
 letter_of b = bit_and b 64 / 64
 
 abbrev pub hex_of : ℕ → ℕ
 hex_of b = bit_and b 15 + 9 * letter_of b
 
-dec_digit : (b : ℕ) → digit_value b < 10 → dec_of b ≡ digit_value b
+pub dec_digit : (b : ℕ) → digit_value b < 10 → dec_of b ≡ digit_value b
 dec_digit b small =
     let agree = agree_below_at (λ c. not (nat_lt (digit_value c) 10) || nat_eq (dec_of c) (digit_value c)) (λ c. true) 256 b refl (digit_byte b (omega (arith, small))) in
     eqb-true (dec_of b) (digit_value b) (rw (lt-ltb (digit_value b) 10 small) at agree)
 
-hex_digit : (b : ℕ) → digit_value b < 16 → hex_of b ≡ digit_value b
+pub hex_digit : (b : ℕ) → digit_value b < 16 → hex_of b ≡ digit_value b
 hex_digit b small =
     let agree = agree_below_at (λ c. not (nat_lt (digit_value c) 16) || nat_eq (hex_of c) (digit_value c)) (λ c. true) 256 b refl (digit_byte b small) in
     eqb-true (hex_of b) (digit_value b) (rw (lt-ltb (digit_value b) 16 small) at agree)
 
-letter_bit : (b : ℕ) → b < 256 → bit_and b 64 ≡ 64 * letter_of b
+pub letter_bit : (b : ℕ) → b < 256 → bit_and b 64 ≡ 64 * letter_of b
 letter_bit b small = eqb-true (bit_and b 64) (64 * letter_of b) (agree_below_at (λ c. nat_eq (bit_and c 64) (64 * letter_of c)) (λ c. true) 256 b refl small)
 
 -- Neighbours are put together.
 
 -- the low half of each block is left
-low_byte : (a b r : ℕ) → r < 65536 → bit_and (a * 65536 + r) (b * 65536 + 255) ≡ bit_and a b * 65536 + r % 256
+pub low_byte : (a b r : ℕ) → r < 65536 → bit_and (a * 65536 + r) (b * 65536 + 255) ≡ bit_and a b * 65536 + r % 256
 low_byte a b r small = and_block 16 a b r 255 small (omega arith) ∙ ap (λ n. bit_and a b * 65536 + n) (and_mask r 8)
 
 low_half : (a b r : ℕ) → r < 4294967296 → bit_and (a * 4294967296 + r) (b * 4294967296 + 65535) ≡ bit_and a b * 4294967296 + r % 65536
@@ -99,7 +99,7 @@ two_left p q w x P Q W X n is =
     ap (λ m. bit_and m 281470681808895) whole ∙ low_half (q + 65536 * x) 65535 (p + 65536 * w) (omega (arith, P, W)) ∙ omega (arith, second, P)
 
 -- each of them is a digit of the base
-abbrev AreDigits : ℕ → List ℕ → Type 0
+abbrev pub AreDigits : ℕ → List ℕ → Type 0
 AreDigits base digits = AllByRecursion (λ d. d < base) digits
 
 -- eight decimal digits: first pairs of them, then fours
@@ -183,16 +183,16 @@ hex_eight = by_eight (λ digits. AreDigits 16 digits → hex_joined (number_from
 
 -- Zeros in front fill the digits up to eight.
 
-abbrev zeros : ℕ → List ℕ
+abbrev pub zeros : ℕ → List ℕ
 zeros zero = []
 zeros (suc n) = 0 ∷ zeros n
 
-length-zeros : (n : ℕ) → length (zeros n) ≡ n
+pub length-zeros : (n : ℕ) → length (zeros n) ≡ n
 length-zeros zero = refl
 length-zeros (suc n) = ap suc (length-zeros n)
 
 -- they don't change the number
-after_zeros : (base n : ℕ) (digits : List ℕ) → number_from_digits base (zeros n ++ digits) ≡ number_from_digits base digits
+pub after_zeros : (base n : ℕ) (digits : List ℕ) → number_from_digits base (zeros n ++ digits) ≡ number_from_digits base digits
 after_zeros base zero digits = refl
 after_zeros base (suc n) digits =
     let nothing : 0 * base + 0 ≡ 0 = omega arith in
@@ -200,12 +200,12 @@ after_zeros base (suc n) digits =
 
 -- the digits of a base, where each byte gives its value as a digit
 module _ (base : ℕ) (value : ℕ → ℕ) (some : 0 < base) (few : base ≤ 16) (none : value 0 ≡ 0) (each : (b : ℕ) → digit_value b < base → value b ≡ digit_value b) where
-  are_bytes : (n : ℕ) (digits : List ℕ) → AllDigits base digits → AreBytes (zeros n ++ digits)
+  pub are_bytes : (n : ℕ) (digits : List ℕ) → AllDigits base digits → AreBytes (zeros n ++ digits)
   are_bytes zero [] are = tt
   are_bytes zero (d ∷ digits) are = (digit_byte d (omega (arith, are.0, few)), are_bytes zero digits are.1)
   are_bytes (suc n) digits are = (omega arith, are_bytes n digits are)
 
-  are_digits : (n : ℕ) (digits : List ℕ) → AllDigits base digits → AreDigits base (map value (zeros n ++ digits))
+  pub are_digits : (n : ℕ) (digits : List ℕ) → AllDigits base digits → AreDigits base (map value (zeros n ++ digits))
   are_digits zero [] are = tt
   are_digits zero (d ∷ digits) are = (omega (arith, each d are.0, are.0), are_digits zero digits are.1)
   are_digits (suc n) digits are = (omega (arith, none, some), are_digits n digits are)
@@ -215,7 +215,7 @@ module _ (base : ℕ) (value : ℕ → ℕ) (some : 0 < base) (few : base ≤ 16
   values_after [] m are = refl
   values_after (d ∷ digits) m are = values_after digits (m * base + value d) are.1 ∙ ap (λ v. digits_value_after base (m * base + v) digits) (each d are.0)
 
-  values_are : (n : ℕ) (digits : List ℕ) → AllDigits base digits → number_from_digits base (map value (zeros n ++ digits)) ≡ digits_value base digits
+  pub values_are : (n : ℕ) (digits : List ℕ) → AllDigits base digits → number_from_digits base (map value (zeros n ++ digits)) ≡ digits_value base digits
   values_are zero digits are = values_after digits 0 are
   values_are (suc n) digits are =
       let nothing : 0 * base + value 0 ≡ 0 = omega (arith, none) in
@@ -278,20 +278,20 @@ module _ (digits : List ℕ) (few : length digits ≤ 8) where
 
 -- The digits at the front of a text.
 
-module _ (text : List ℕ) (room : 8 ≤ length text) (count : ℕ) (few : count ≤ 8) where
-  -- the bytes before the last ones of a load
-  pub front_number : ((k : ℕ) → get_or text k 0 < 256) → (load : ℕ) → load ≡ number_from_digits 256 (take 8 text) →
-      load / 2 ^ (64 - 8 * count) ≡ number_from_digits 256 (take count text)
-  front_number small load is =
-      let back = take (8 - count) (drop count text) in
-      let parts : 8 ≡ count + (8 - count) = omega (arith, few) in
-      let split : take 8 text ≡ take count text ++ back = ap (λ n. take n text) parts ∙ take-add count (8 - count) text in
-      let front = number_from_digits 256 (take count text) in
-      let whole : load ≡ number_from_digits_after 256 front back = is ∙ ap (number_from_digits 256) split ∙ number_after_append 256 0 (take count text) back in
-      let long : 64 - 8 * count ≡ 8 * length back
-      = omega (arith, few, room, length-take-le (8 - count) (drop count text) (omega (arith, length-drop count text, room))) in
-      ap₂ (λ n k. n / 2 ^ k) whole long ∙ first_bytes back front (bytes_past count (8 - count) text small)
+-- the bytes before the last ones of a load of so many
+pub front_number : (text : List ℕ) (size : ℕ) → size ≤ length text → (count : ℕ) → count ≤ size → ((k : ℕ) → get_or text k 0 < 256) →
+    (load : ℕ) → load ≡ number_from_digits 256 (take size text) → load / 2 ^ (8 * size - 8 * count) ≡ number_from_digits 256 (take count text)
+front_number text size room count few small load is =
+    let back = take (size - count) (drop count text) in
+    let parts : size ≡ count + (size - count) = omega (arith, few) in
+    let split : take size text ≡ take count text ++ back = ap (λ n. take n text) parts ∙ take-add count (size - count) text in
+    let front = number_from_digits 256 (take count text) in
+    let whole : load ≡ number_from_digits_after 256 front back = is ∙ ap (number_from_digits 256) split ∙ number_after_append 256 0 (take count text) back in
+    let long : 8 * size - 8 * count ≡ 8 * length back
+    = omega (arith, few, room, length-take-le (size - count) (drop count text) (omega (arith, length-drop count text, room))) in
+    ap₂ (λ n k. n / 2 ^ k) whole long ∙ first_bytes back front (bytes_past count (size - count) text small)
 
+module _ (text : List ℕ) (room : 8 ≤ length text) (count : ℕ) (few : count ≤ 8) where
   short : length (take count text) ≤ 8
   short = omega (arith, few, room, length-take-le count text (omega (arith, few, room)))
 

@@ -1,5 +1,5 @@
 -- The bytes of a Breakpad line, by kind.
-use Rattle.std.specs.Prelude.{ℕ, Bool, ◌==◌, ◌&&◌, ◌||◌, not, true, false, List, [], ◌∷◌}
+use Rattle.std.specs.Prelude.{ℕ, Bool, ◌==◌, ◌&&◌, ◌||◌, not, nat_lt, true, false, List, [], ◌∷◌}
 use Rattle.std.specs.Char.{is_ascii, is_digit}
 use Rattle.bz_base.specs.Byte.{tab, line_feed, carriage_return, space, is_blank}
 
@@ -34,6 +34,10 @@ is_within_line b = not (b == line_feed || b == carriage_return)
 -- one in ASCII
 abbrev pub is_ascii_in_line : ℕ → Bool
 is_ascii_in_line b = is_ascii b && is_within_line b
+
+-- one after space, as the bytes of numbers and of names are
+abbrev pub is_past_space : ℕ → Bool
+is_past_space b = nat_lt space b
 
 abbrev pub is_carriage_return : ℕ → Bool
 is_carriage_return b = b == carriage_return

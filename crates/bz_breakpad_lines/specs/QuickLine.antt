@@ -4,11 +4,18 @@ use Rattle.bz_breakpad_lines.specs.Form.{Value}
 use Rattle.bz_breakpad_lines.specs.LineStarts.{IsStartText}
 use Rattle.bz_breakpad_lines.specs.Quick.{IsFormLine}
 use Rattle.bz_breakpad_lines.specs.Records.{LINE}
-use Rattle.bz_breakpad_lines.specs.Stops.{AreStops, number_between}
+use Rattle.bz_breakpad_lines.specs.Stops.{AreDigits, AreStops, number_between}
 use Rattle.bz_breakpad_lines.specs.declared.line.LineEnds.{LineEnds}
 use Rattle.bz_breakpad_lines.specs.declared.line.QuickLine.{QuickLine}
 use Rattle.bz_breakpad_lines.specs.declared.on_run.RunLine.{RunLine}
 use Rattle.bz_breakpad_lines.specs.declared.start_text.StartText.{StartText}
+
+-- the digits of a line record's fields end there, of which none has more than eight
+pub record AreLineEnds (text : List ℕ) (start : ℕ) (ends : LineEnds) : Type 0 where
+  pub of_start : AreDigits 16 8 text 0 start
+  pub of_size : AreDigits 16 8 text (start + 1) ends.size
+  pub of_line : AreDigits 10 8 text (ends.size + 1) ends.line
+  pub of_file : AreDigits 10 8 text (ends.line + 1) ends.file
 
 -- what the fields tell that end there
 abbrev pub line_between : List ℕ → ℕ → LineEnds → Value LINE

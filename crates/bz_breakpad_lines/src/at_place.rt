@@ -1,15 +1,14 @@
 //! Line records and inlined calls at places in a file's bytes.
 
-ghost use Rattle.std.specs.Prelude.{◌≡◌, ◌<◌, ◌≤◌, ◌==◌, not, Some, drop, length, option_map, unwrap_or, IfSome, ◌+◌};
+ghost use Rattle.std.specs.Prelude.{◌≡◌, ◌<◌, ◌≤◌, ◌==◌, not, Some, drop, length, option_map, unwrap_or, IfSome};
 ghost use Rattle.std.specs.List.{prefix_len};
 ghost use Rattle.bz_base.specs.Byte.{line_feed};
 ghost use Rattle.bz_breakpad_lines.specs.Calls.{call_in, call_read};
 ghost use Rattle.bz_breakpad_lines.specs.Form.Piece.{Hex};
 ghost use Rattle.bz_breakpad_lines.specs.Line.{line_in, source_line};
 ghost use Rattle.bz_breakpad_lines.specs.LineStarts.{ReadsLine, line_read, line_start};
-ghost use Rattle.bz_breakpad_lines.specs.QuickLine.{line_between};
+ghost use Rattle.bz_breakpad_lines.specs.QuickLine.{AreLineEnds, line_between};
 ghost use Rattle.bz_breakpad_lines.specs.Reads.{piece_at};
-ghost use Rattle.bz_breakpad_lines.specs.Stops.{AreDigits};
 ghost use Rattle.bz_breakpad_lines.specs.Told.{line_seen, call_told};
 
 use crate::field::{body, hex_field};
@@ -17,9 +16,8 @@ use crate::in_turn::quick_next;
 use crate::inline::call_line;
 use crate::lanes::{few_hex, line_feeds};
 use crate::line::LineEnds;
-use crate::quick::Shown;
 use crate::record::{InlineCall, SourceLine, call_front, line_record};
-use crate::values::hex_front;
+use crate::values::{dec_between, hex_between, hex_front};
 use memchr::memchr;
 
 /// How many bytes stand before the line's end.
@@ -73,19 +71,16 @@ pub fn line_record_at(bytes: &[u8], place: usize) -> Option<SourceLine>
 
 /// The line record at the front whose fields end there.
 #[inline(always)]
-pub(crate) fn line_by(shown: Shown<'_>, start: u32, ends: LineEnds) -> SourceLine
-    requires room { 40 ≤ length shown.text.now }
-    requires start { AreDigits 16 8 shown.text.now 0 start }
-    requires size { AreDigits 16 8 shown.text.now (start + 1) ends.size }
-    requires line { AreDigits 10 8 shown.text.now (ends.size + 1) ends.line }
-    requires file { AreDigits 10 8 shown.text.now (ends.line + 1) ends.file }
-    ensures { line_seen result ≡ source_line (line_between shown.entry.text.now start ends) }
+pub(crate) fn line_by(text: &[u8], start: u32, ends: LineEnds) -> SourceLine
+    requires room { 40 ≤ length text.now }
+    requires ends { AreLineEnds text.now start ends }
+    ensures { line_seen result ≡ source_line (line_between text.now start ends) }
 {
     SourceLine {
-        addr: u64::from(shown.hex(0, start)),
-        size: shown.hex(start + 1, ends.size),
-        line: shown.dec(ends.size + 1, ends.line),
-        file: shown.dec(ends.line + 1, ends.file),
+        addr: u64::from(hex_front(text, start)),
+        size: hex_between(text, start + 1, ends.size),
+        line: dec_between(text, ends.size + 1, ends.line),
+        file: dec_between(text, ends.line + 1, ends.file),
     }
 }
 

@@ -1,14 +1,16 @@
 //! Line records that stand one after another.
 
-ghost use Rattle.std.specs.Prelude.{◌≡◌, ◌≤◌, ◌==◌, not, Some, length, IfSome};
+ghost use Rattle.std.specs.Prelude.{◌≡◌, ◌+◌, ◌<◌, ◌≤◌, ◌==◌, ℕ, List, not, Some, length, IfSome};
 ghost use Rattle.std.specs.List.{prefix_len};
 ghost use Rattle.bz_base.specs.Byte.{line_feed};
 ghost use Rattle.bz_breakpad_lines.specs.Line.{line_in};
-ghost use Rattle.bz_breakpad_lines.specs.LineStarts.{line_read};
+ghost use Rattle.bz_breakpad_lines.specs.LineStarts.{ReadsLine, line_read};
+ghost use Rattle.bz_breakpad_lines.specs.Stops.{AreFieldStops, IsField};
 ghost use Rattle.bz_breakpad_lines.specs.Told.{line_seen};
 
 use crate::at_place::{line_by, line_len, line_or_zeros};
-use crate::line::line_ends;
+use crate::lanes::space_stops;
+use crate::line::{LineEnds, line_ends};
 use crate::quick::Shown;
 use crate::record::SourceLine;
 
@@ -21,20 +23,77 @@ pub struct NextLine {
     pub end: usize,
 }
 
-/// The line record that the first line of the text is.
+/// The line record that the first line of the text is, where one is read: only where its fields end
+/// is looked for.
 #[inline(always)]
 pub fn next_line_record(text: &[u8]) -> NextLine
+    requires { ReadsLine text.now 0 }
     ensures line { line_seen result.line ≡ line_read text.now 0 }
     ensures end { result.end ≡ prefix_len (λ b. not (b == line_feed)) text.now }
     ensures within { result.end ≤ length text.now }
 {
-    match quick_next(text) {
+    match plain_next(text) {
         Some(next) => next,
         None => any_next(text),
     }
 }
 
-/// The same, if one load shows the whole line.
+/// The same, if one load shows the whole line, and single spaces divide its fields.
+#[inline(always)]
+fn plain_next(text: &[u8]) -> Option<NextLine>
+    requires { ReadsLine text.now 0 }
+    ensures line { IfSome result (λ next. line_in text.now ≡ Some (line_seen next.line)) }
+    ensures end { IfSome result (λ next. next.end ≡ prefix_len (λ b. not (b == line_feed)) text.now) }
+    ensures within { IfSome result (λ next. next.end ≤ length text.now) }
+{
+    if text.len() < 40 {
+        return None;
+    }
+    let start = field_end(space_stops(text), 0)?;
+    let size = field_end(start.later, start.at + 1)?;
+    let line = field_end(size.later, size.at + 1)?;
+    let file = field_end(line.later, line.at + 1)?;
+    if text[file.at as usize] != b'\n' {
+        return None;
+    }
+    let ends = LineEnds {
+        size: size.at,
+        line: line.at,
+        file: file.at,
+    };
+    Some(NextLine {
+        line: line_by(text, start.at, ends),
+        end: file.at as usize,
+    })
+}
+
+/// Where a field ends.
+#[derive(Drop)]
+struct FieldEnd {
+    /// The place of the byte that ends it.
+    at: u32,
+    /// The bits of the bytes after that one.
+    later: u64,
+}
+
+/// Where the one to eight bytes past space from a place on end, by the bits of the others from there.
+#[inline(always)]
+fn field_end(stops: u64, from: u32) -> Option<FieldEnd>
+    requires { from < 56 }
+    ensures field { IfSome result (λ end. (text : List ℕ) → AreFieldStops text from stops → IsField text from end.at) }
+    ensures later { IfSome result (λ end. (text : List ℕ) → AreFieldStops text from stops → AreFieldStops text (end.at + 1) end.later) }
+{
+    let at = stops.trailing_zeros();
+    if at <= from || at > from + 8 {
+        return None;
+    }
+    Some(FieldEnd {
+        at,
+        later: stops & (stops - 1),
+    })
+}
+
+/// The line record that the first line of the text is, if one load shows the whole line.
 #[inline(always)]
 pub(crate) fn quick_next(text: &[u8]) -> Option<NextLine>
     ensures line { IfSome result (λ next. line_in text.now ≡ Some (line_seen next.line)) }
@@ -50,7 +109,7 @@ pub(crate) fn quick_next(text: &[u8]) -> Option<NextLine>
         return None;
     }
     Some(NextLine {
-        line: line_by(shown, start, ends),
+        line: line_by(shown.text, start, ends),
         end: end as usize,
     })
 }

@@ -2,7 +2,7 @@
 
 ghost use Rattle.std.specs.Prelude.{◌≡◌, ◌==◌, ◌<◌, ◌≤◌, ◌+◌, ◌*◌, ◌^◌, ℕ, List, not, length, map, take, drop, IfSome};
 ghost use Rattle.bz_base.specs.Byte.{line_feed};
-ghost use Rattle.bz_breakpad_lines.specs.Byte.{is_hex, is_decimal};
+ghost use Rattle.bz_breakpad_lines.specs.Byte.{is_hex, is_decimal, is_past_space};
 ghost use Rattle.bz_breakpad_lines.specs.Stops.{AreDigits, AreStops};
 ghost use lib.Lanes.{mask_l};
 
@@ -106,6 +106,18 @@ fn dec_stops(text: &[u8]) -> u64
     let bytes = u8x32::from_slice(text);
     (bytes - u8x32::splat(b'0'))
         .simd_ge(u8x32::splat(10))
+        .to_bitmask()
+}
+
+/// A bit for each of the first 32 bytes that isn't past space. Where a record is known to stand, the
+/// fields of numbers end there.
+#[inline(always)]
+pub(crate) fn space_stops(text: &[u8]) -> u64
+    requires { 32 ≤ length text.now }
+    ensures { result ≡ mask_l (map (λ b. not (is_past_space b)) (take 32 text.now)) }
+{
+    u8x32::from_slice(text)
+        .simd_le(u8x32::splat(b' '))
         .to_bitmask()
 }
 

@@ -1,9 +1,11 @@
 -- Line records that are put in order by their keys.
-use Rattle.std.proofs.Common.{◌≡◌, ℕ, zero, suc, ◌≤◌, List, [], ◌∷◌, ◌++◌, length, map, Some, refl, sym, ap, ap₂, subst, ◌∙◌, arith, inl, inr, length-append}
+use Rattle.std.proofs.Common.{◌≡◌, ℕ, zero, suc, ◌-◌, ◌≤◌, List, [], ◌∷◌, ◌++◌, length, map, Some, refl, sym, ap, ap₂, subst, ◌∙◌, arith, inl, inr, length-append}
 use Rattle.std.specs.List.{AllByRecursion, filter, slice_get}
+use Rattle.std.specs.Prelude.{slice_index}
 use Rattle.std.proofs.lemmas.Bool.{cases_lt}
 use Rattle.std.proofs.lemmas.List.{length-map}
 use Rattle.std.proofs.lemmas.Option.{none-some, same_Some, slice_get_within}
+use Rattle.bz_base.specs.Byte.{line_feed}
 use Rattle.bz_base.specs.Nearest.{IsTable, has_span}
 use Rattle.bz_base.specs.Starts.{NeverDescends}
 use Rattle.bz_base.proofs.TableLemmas.{start_at}
@@ -79,6 +81,17 @@ module _ {X : Type 0} (start size start' size' : X → ℕ) where
         alike = λ at long. sym (same_left at long table there) ∙ is.alike at long ∙ same_left at long records all;
       }
 
+-- the last byte of a text
+last_is : (text front : List ℕ) (b : ℕ) → text ≡ front ++ b ∷ [] → slice_index text (length text - 1) ≡ b
+last_is text front b is =
+    ap (λ (t : List ℕ). slice_index t (length t - 1)) is
+    ∙ ap (slice_index (front ++ b ∷ [])) (omega (arith, length-append front (b ∷ [])))
+    ∙ at_end front
+  where
+    at_end : (xs : List ℕ) → slice_index (xs ++ b ∷ []) (length xs) ≡ b
+    at_end [] = refl
+    at_end (x ∷ xs) = at_end xs
+
 module _ (bytes : List ℕ) where
   -- at the places of keys line records are read
   keys_read : (keys : List LineKey) → AllByRecursion (IsLineKey bytes) keys → AllByRecursion (ReadsLine bytes) (places_of keys)
@@ -127,13 +140,21 @@ module _ (bytes : List ℕ) where
   -- and those of a run
   pub run_ended : (places : List ℕ) (keys : List LineKey) (run : Part) (last : StartText) → IsOpenRunAt bytes run last → AreEndedInOrder bytes places keys (sofar.Run run last) (records.Run run)
   run_ended places keys run last is = record {
-    fit = record { within = is.within; run = record { read = is.run.read; ascend = is.run.starts.ascend } };
+    fit = record {
+      within = is.within;
+      run = record { read = is.run.read; ascend = is.run.starts.ascend };
+      ended = λ some. last_is (text_at bytes run) is.run.front line_feed is.run.ends;
+    };
     table = ascending_table (λ (l : SourceLine). l.start) (λ l. l.size) (lines_in (text_at bytes run)) is.run.starts.ascend;
   }
 
   -- and none
   pub none_ended : (places : List ℕ) (keys : List LineKey) → AreEndedInOrder bytes places keys sofar.Empty (records.Run (record { from = 0; to = 0 }))
   none_ended places keys = record {
-    fit = record { within = record { ordered = omega arith; within = omega arith }; run = record { read = tt; ascend = λ i j below within. absurd (omega (arith, within)) } };
+    fit = record {
+      within = record { ordered = omega arith; within = omega arith };
+      run = record { read = tt; ascend = λ i j below within. absurd (omega (arith, within)) };
+      ended = λ some. absurd (omega (arith, some));
+    };
     table = ascending_table (λ (l : SourceLine). l.start) (λ l. l.size) [] (λ i j below within. absurd (omega (arith, within)));
   }

@@ -1,8 +1,9 @@
 -- What is kept of a file, as its bytes say it.
 -- Its records are those of Breakpad's docs/symbol_files.md.
-use Rattle.std.specs.Prelude.{◌≡◌, ◌≤◌, ◌-◌, ℕ, List, [], ◌∷◌, ◌++◌, length, drop, map, Option, Some, option_map, IsUtf8, slice_range, IfSome, IsSome}
+use Rattle.std.specs.Prelude.{◌≡◌, ◌<◌, ◌≤◌, ◌-◌, ℕ, List, [], ◌∷◌, ◌++◌, length, drop, map, Option, Some, option_map, IsUtf8, slice_index, slice_range, IfSome, IsSome}
 use Rattle.std.specs.List.{AllByRecursion, filter_map}
 use Rattle.std.specs.Map.{values_of}
+use Rattle.bz_base.specs.Byte.{line_feed}
 use Rattle.bz_base.specs.Line.{ended_lines}
 use Rattle.bz_base.specs.Nearest.{IsTable}
 use Rattle.bz_base.specs.Starts.{NeverDescends}
@@ -153,6 +154,8 @@ pub record IsPart (count : ℕ) (part : Part) : Type 0 where
 pub record IsRunAt (bytes : List ℕ) (part : Part) : Type 0 where
   pub within : IsPart (length bytes) part
   pub run : IsLineRun (text_at bytes part)
+  -- its last line has its line feed, if it has lines
+  pub ended : 0 < length (text_at bytes part) → slice_index (text_at bytes part) (length (text_at bytes part) - 1) ≡ line_feed
 
 -- the line records at a part of the places stand by start and size
 pub record AreLinesAt (bytes places : List ℕ) (part : Part) : Type 0 where

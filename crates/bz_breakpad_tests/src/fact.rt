@@ -33,6 +33,8 @@ pub(crate) enum Fact {
     Walk(&'static str, &'static [SymInfo<'static>]),
     /// The names of its functions, in the order of start and size.
     Functions(&'static [&'static str]),
+    /// The names of its functions, in the order of the file.
+    InFile(&'static [&'static str]),
     /// What the function shows that answers for the address.
     Function(u64, Told),
     /// The answer at an address, as far as is asked.
@@ -53,6 +55,8 @@ pub(crate) enum Told {
     LineRecord(u64, Option<SourceLine>),
     /// The lines of its line records, in the order of start and size.
     Lines(&'static [u32]),
+    /// Its line records one after another, in the order of start and size.
+    OneByOne(&'static [SourceLine]),
     /// The inlined call of a depth around an address.
     CallAtDepth(u32, u64, Option<Inlinee>),
     /// The inlined calls around an address.

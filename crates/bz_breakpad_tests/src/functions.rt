@@ -1,8 +1,10 @@
-//! What a file's functions tell, what is found in one, and their orders.
+//! What a file's functions tell, what is found in one, their orders, and walks of them.
 
-use crate::fact::Fact::{Function, Functions};
+use crate::fact::Fact::{Function, Functions, InFile};
 use crate::fact::Row;
-use crate::fact::Told::{CallAtDepth, Calls, CallsAround, LineRecord, Lines, Nothing, Parts};
+use crate::fact::Told::{
+    CallAtDepth, Calls, CallsAround, LineRecord, Lines, Nothing, OneByOne, Parts,
+};
 use crate::files::NESTED;
 use bz_breakpad::{Inlinee, SourceLine};
 use bz_samples::BREAKPAD_KINDS;
@@ -133,4 +135,66 @@ pub(crate) const IN_ORDER: &[Row] = &[
         b"FUNC 1000 100 0 f\nINLINE 1 21 5 2 1010 10 1008 8\nINLINE 0 20 4 1 1000 40\nINLINE 2 22 5 3 1010 4\nINLINE 1 23 6 4 1008 2\n",
         &[Function(0x1000, Calls(INLINEES))],
     ),
+];
+
+/// The lines of a run with numbers of more than four digits.
+const LONG: &[SourceLine] = &[
+    SourceLine {
+        addr: 0x1000,
+        size: 0x10,
+        file: 1,
+        line: 12345,
+    },
+    SourceLine {
+        addr: 0x1010,
+        size: 8,
+        file: 10007,
+        line: 123456,
+    },
+    SourceLine {
+        addr: 0x1020,
+        size: 8,
+        file: 2,
+        line: 4294967295,
+    },
+];
+
+/// The lines of a list, out of order in its text.
+const LISTED: &[SourceLine] = &[
+    SourceLine {
+        addr: 0x1000,
+        size: 0x10,
+        file: 1,
+        line: 1,
+    },
+    SourceLine {
+        addr: 0x1010,
+        size: 4,
+        file: 1,
+        line: 9,
+    },
+    SourceLine {
+        addr: 0x1010,
+        size: 8,
+        file: 2,
+        line: 3,
+    },
+];
+
+/// Functions in the order of the file, and lines one after another. Those of a run have tabs, two
+/// spaces and carriage returns.
+pub(crate) const WALKED: &[Row] = &[
+    (
+        b"FUNC 30 10 0 c\nFUNC 10 20 0 b\nFUNC m 10 8 0 a\nFUNC 30 10 4 d\n",
+        &[InFile(&["c", "b", "a", "d"])],
+    ),
+    (
+        b"FUNC 1000 60 0 f\n1000 10 12345 1\r\n1010\t8\t123456\t10007\r\n1020  8  4294967295  2\r\nINFO a record of more bytes than a load\n",
+        &[Function(0x1000, OneByOne(LONG))],
+    ),
+    (
+        b"FUNC 1000 60 0 f\n1010 8 3 2\n1000 10 1 1\n1010 4 9 1\n",
+        &[Function(0x1000, OneByOne(LISTED))],
+    ),
+    (b"FUNC 1000 60 0 f\n", &[Function(0x1000, OneByOne(&[]))]),
 ];

@@ -5,7 +5,9 @@ ghost use Rattle.std.specs.Prelude.{◌≡◌, ◌<◌};
 use crate::answered::{Asked, is_answered};
 use crate::fact::{ABSENT, Fact, Row};
 use crate::found::has_batch;
-use crate::named::{are_listed, has_function_names, has_name, has_names, has_public};
+use crate::named::{
+    are_listed, has_function_names, has_name, has_names, has_names_in_file, has_public,
+};
 use crate::read::{Way, file_of, records_of};
 use crate::told::is_told;
 use crate::walked::is_walk;
@@ -80,6 +82,7 @@ fn shows<L: Ledger>(
         Fact::Publics(publics) => are_listed(file.publics(alloc), publics),
         Fact::Walk(last, infos) => is_walk(file, SymType::Undefined, last, infos, Ok(())),
         Fact::Functions(names) => has_function_names(file, names, steps),
+        Fact::InFile(names) => has_names_in_file(file, names),
         Fact::Function(addr, told) => is_told(alloc, file, *addr, told, steps),
         Fact::Answer(addr, opts, answer) => {
             let asked = Asked {

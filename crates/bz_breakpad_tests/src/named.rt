@@ -77,3 +77,16 @@ pub(crate) fn has_function_names<L: Ledger>(
     }
     true
 }
+
+/// Whether these are the functions' names, in the order of the file.
+pub(crate) fn has_names_in_file(file: &SymbolFile, expected: &[&str]) -> bool {
+    if file.function_count() != expected.len() {
+        return false;
+    }
+    for index in 0..expected.len() {
+        if file.function_in_file(index).name() != expected[index] {
+            return false;
+        }
+    }
+    true
+}

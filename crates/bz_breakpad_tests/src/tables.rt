@@ -55,9 +55,10 @@ fn files_have_the_names_of_their_records(rt: HostRuntime) {
 }
 
 /// Tables of functions.
-static FUNCTIONS: [Table; 4] = [
+static FUNCTIONS: [Table; 5] = [
     ("functions, lines and calls", Bytes, functions::FOUND),
     ("their order", Bytes, functions::IN_ORDER),
+    ("walks of functions and lines", Bytes, functions::WALKED),
     ("lines of runs and lists", Bytes, lines::LINES),
     ("walks in order", Bytes, inspected::WALKS),
 ];

@@ -32,6 +32,7 @@ fn is_told_by(alloc: Global, function: &Function<'_>, told: &Told) -> bool {
         Told::Line(addr, line) => line_at(function, *addr) == *line,
         Told::LineRecord(addr, line) => function.find_line(*addr) == *line,
         Told::Lines(lines) => has_lines(alloc, function, lines),
+        Told::OneByOne(lines) => gives_lines(function, lines),
         Told::CallAtDepth(depth, addr, call) => {
             function.find_inlinee_at_depth(*depth, *addr) == *call
         }
@@ -66,6 +67,18 @@ fn are_lines(function: &Function<'_>, lines: &[SourceLine], numbers: &[u32]) -> 
         }
     }
     true
+}
+
+/// Whether it gives these line records one after another.
+fn gives_lines(function: &Function<'_>, expected: &[SourceLine]) -> bool {
+    let mut met = 0usize;
+    for line in function.iter_lines() {
+        if expected.get(met) != Some(&line) {
+            return false;
+        }
+        met = met.saturating_add(1);
+    }
+    met == expected.len()
 }
 
 /// Whether these are the calls, and each is the one at its index.

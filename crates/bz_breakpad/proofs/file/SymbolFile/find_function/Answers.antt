@@ -1,10 +1,10 @@
 use Rattle.std.proofs.Common.{◌≡◌, ◌<◌, Option, Some, length, sym, ap, subst, ◌∙◌}
+use Rattle.std.specs.List.{slice_get}
 use Rattle.std.proofs.lemmas.Option.{same_Some, slice_get_within}
 use Rattle.bz_breakpad_function.specs.Indexed.{functions_of}
 use Rattle.bz_breakpad.specs.Plain.{function_at}
 use Rattle.bz_breakpad_lines.specs.Reader.{table_in}
 use Rattle.bz_breakpad_lines.specs.Table.{Table}
-use Rattle.bz_breakpad_function.proofs.IndexedLemmas.{function_is}
 use Rattle.bz_breakpad.proofs.file.SymbolFile.find_function.Goals as goal
 
 pub function_in_file-requires : goal.function_in_file-requires
@@ -21,6 +21,8 @@ returns-clause-found g c table is =
     let index = c.in_ok-index.index in
     let found = c.in_ok-index.ensures c.self.inside.bytes.items kept.table kept.stands in
     let read : table_in c.args.self.now ≡ Some kept.table = ap table_in (sym c.self.view_is) ∙ kept.read in
-    ap Some (c.function_in_file.ensures ∙ function_is c.args.self.now kept.table index found.function read found.there)
+    sym c.function_in_file.ensures
+    ∙ ap (λ (o : Option Table). slice_get (functions_of o) index) read
+    ∙ found.there
     ∙ sym found.answers
     ∙ ap (λ (t : Table). function_at c.args.addr t.functions) (same_Some kept.table table (sym read ∙ is))

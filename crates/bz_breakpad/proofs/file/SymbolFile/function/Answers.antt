@@ -5,7 +5,6 @@ use Rattle.bz_breakpad_function.specs.InOrder.{ordered_functions}
 use Rattle.bz_breakpad_function.specs.Indexed.{functions_of}
 use Rattle.bz_breakpad_lines.specs.Reader.{table_in}
 use Rattle.bz_breakpad_lines.specs.Table.{Table}
-use Rattle.bz_breakpad_function.proofs.IndexedLemmas.{function_is}
 use Rattle.bz_breakpad.proofs.KeyLemmas.{in_order_at, tells_at, told}
 use Rattle.bz_breakpad.proofs.file.SymbolFile.function.Goals as goal
 
@@ -33,4 +32,4 @@ returns-clause-function g c =
     let tells = tells_at bytes code functions kept.stands.functions code.keys.items kept.stands.keys c.args.index key within c.index.ensures in
     ap (λ (o : Option Table). slice_get (ordered_functions (functions_of o)) c.args.index) read
     ∙ in_order_at bytes code functions kept.stands.functions code.keys.items kept.stands.keys c.args.index key within c.index.ensures
-    ∙ ap Some (sym (c.function_in_file.ensures ∙ function_is c.args.self.now kept.table key.index (told functions key) read tells))
+    ∙ sym (sym c.function_in_file.ensures ∙ ap (λ (o : Option Table). slice_get (functions_of o) key.index) read ∙ tells)

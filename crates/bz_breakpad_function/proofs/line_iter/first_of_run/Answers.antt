@@ -2,8 +2,12 @@ use Rattle.std.proofs.Common.{◌≡◌, ◌+◌, ◌-◌, ◌∷◌, take, drop
 use Rattle.bz_breakpad_lines.specs.LineStarts.{line_read}
 use Rattle.bz_breakpad_lines.specs.Table.{SourceLine}
 use Rattle.bz_breakpad_table.specs.LineRun.{lines_in}
+use Rattle.bz_breakpad_function.proofs.RunFrontLemmas.{read_first}
 use Rattle.bz_breakpad_function.proofs.RunWalkLemmas.{front_then, line_then, one_line}
-use Rattle.bz_breakpad_function.proofs.walks.first_of_run.Goals as goal
+use Rattle.bz_breakpad_function.proofs.line_iter.first_of_run.Goals as goal
+
+pub next_line_record-next-requires : goal.next_line_record-next-requires
+next_line_record-next-requires c = read_first c.args.text.now c.args.len c.requires.run c.requires.positive
 
 pub returns-then-end-len-clause-lines : goal.returns-then-end-len-clause-lines
 returns-then-end-len-clause-lines c =

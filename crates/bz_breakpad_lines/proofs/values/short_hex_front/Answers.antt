@@ -1,0 +1,7 @@
+use Rattle.std.proofs.Common.{arith}
+use Rattle.bz_breakpad_lines.proofs.ShortValueLemmas.{hex_at_front}
+use Rattle.bz_breakpad_lines.proofs.values.short_hex_front.Goals as goal
+
+pub returns : goal.returns
+returns c =
+    hex_at_front c.args.text.now (omega (arith, c.requires.room)) c.args.digits (omega arith) c.requires.digits c.four_bytes_front-bytes.result c.four_bytes_front-bytes.ensures
