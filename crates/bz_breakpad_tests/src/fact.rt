@@ -55,8 +55,8 @@ pub(crate) enum Told {
     LineRecord(u64, Option<SourceLine>),
     /// The lines of its line records, in the order of start and size.
     Lines(&'static [u32]),
-    /// Its line records one after another, in the order of start and size.
-    OneByOne(&'static [SourceLine]),
+    /// Its line records one after another, in the order of start and size: address, size, line, file.
+    OneByOne(&'static [(u64, u32, u32, u32)]),
     /// The inlined call of a depth around an address.
     CallAtDepth(u32, u64, Option<Inlinee>),
     /// The inlined calls around an address.

@@ -138,51 +138,20 @@ pub(crate) const IN_ORDER: &[Row] = &[
 ];
 
 /// The lines of a run with numbers of more than four digits.
-const LONG: &[SourceLine] = &[
-    SourceLine {
-        addr: 0x1000,
-        size: 0x10,
-        file: 1,
-        line: 12345,
-    },
-    SourceLine {
-        addr: 0x1010,
-        size: 8,
-        file: 10007,
-        line: 123456,
-    },
-    SourceLine {
-        addr: 0x1020,
-        size: 8,
-        file: 2,
-        line: 4294967295,
-    },
+const LONG: &[(u64, u32, u32, u32)] = &[
+    (0x1000, 0x10, 12345, 1),
+    (0x1010, 8, 123456, 10007),
+    (0x1020, 8, 4294967295, 2),
 ];
 
 /// The lines of a list, out of order in its text.
-const LISTED: &[SourceLine] = &[
-    SourceLine {
-        addr: 0x1000,
-        size: 0x10,
-        file: 1,
-        line: 1,
-    },
-    SourceLine {
-        addr: 0x1010,
-        size: 4,
-        file: 1,
-        line: 9,
-    },
-    SourceLine {
-        addr: 0x1010,
-        size: 8,
-        file: 2,
-        line: 3,
-    },
+const LISTED: &[(u64, u32, u32, u32)] = &[
+    (0x1000, 0x10, 1, 1),
+    (0x1010, 4, 9, 1),
+    (0x1010, 8, 3, 2),
 ];
 
-/// Functions in the order of the file, and lines one after another. Those of a run have tabs, two
-/// spaces and carriage returns.
+/// Walks in their orders. The lines of a run have tabs, two spaces and carriage returns.
 pub(crate) const WALKED: &[Row] = &[
     (
         b"FUNC 30 10 0 c\nFUNC 10 20 0 b\nFUNC m 10 8 0 a\nFUNC 30 10 4 d\n",
