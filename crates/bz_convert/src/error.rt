@@ -79,8 +79,7 @@ pub enum ConvertError {
         /// How many bytes it would have.
         bytes: u64,
     },
-    /// Memory ran out. Also where 32 bits don't count the texts or source files, or 64 bits the
-    /// bytes.
+    /// Memory ran out, or 32 bits don't count the texts or source files, or 64 bits the bytes.
     #[error("memory ran out")]
     OutOfMemory,
 }

@@ -111,8 +111,7 @@ pub(crate) fn file_has_zero(file: &SymbolFile, id: u32) -> bool
     dir.is_some_and(has_zero) || has_zero(name)
 }
 
-/// Whether a text that is laid out for a function holds a zero byte: its name, or one of its rows or
-/// inlined calls.
+/// Whether a text laid out for a function has a zero byte: its name, or one of its rows or calls.
 pub(crate) fn texts_have_zero(
     ids: &CleanIds<'_>,
     function: &Function<'_>,

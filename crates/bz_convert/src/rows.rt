@@ -50,8 +50,7 @@ pub(crate) struct Walked {
     pub gap: Option<u64>,
 }
 
-/// Walks over the addresses of a function that has a size and these line records, and whose end fits 64
-/// bits.
+/// Walks over a function that has a size and these line records, and whose end fits 64 bits.
 pub(crate) fn walk_records(
     alloc: Global,
     function: &Function<'_>,
@@ -168,8 +167,7 @@ fn walk_points(
     Ok(Walked { rows, gap })
 }
 
-/// A gap, or else the one at an address, by the record that answers before it and by the one that
-/// answers there.
+/// A gap, or else the one at an address, by the records that answer before it and there.
 fn first_gap(
     gap: Option<u64>,
     addr: u64,

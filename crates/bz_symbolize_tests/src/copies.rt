@@ -1,5 +1,4 @@
-//! Sources and requests are printed as what they are of, and copies of them are the same in every
-//! field.
+//! Sources and requests are printed as what they are of, and their copies are the same throughout.
 
 use crate::asking::{Subject, source};
 use crate::keeping::{Kept, to_forget, to_keep};
@@ -113,11 +112,8 @@ fn is_source(alloc: Global, subject: &Subject, bytes: &[u8], text: &str) -> bool
     }
 }
 
-/// How a process is asked:
-/// - whether debug symbols are looked for;
-/// - whether its perf map answers;
-/// - whether mapped files are looked at by the paths that stand for their mappings;
-/// - whether symbols of the vDSO are looked for.
+/// How a process is asked: whether debug symbols are looked for, its perf map answers, mapped files
+/// are looked at by the paths that stand for mappings, and symbols of the vDSO are looked for.
 type Ways = (bool, bool, bool, bool);
 
 /// In each of them one thing is off.

@@ -130,8 +130,7 @@ const ANSWERS_JIT: Asked = Single(Input::AbsAddr(0x3008), Named("jit"));
 /// The process is absent.
 const ABSENT_PROCESS: Asked = Single(Input::AbsAddr(0x3008), Refused(Error::NotFound));
 
-/// A process that is kept answers without its files, also after a refused request, until it is
-/// forgotten.
+/// A kept process answers without its files, also after a refused request, until it is forgotten.
 const PROCESS_KEPT: Script = &[
     Keep(PROCESS, None),
     NoFiles,
@@ -212,8 +211,7 @@ const FILE_STAYS: Script = &[
 ];
 
 /// What is kept of the process before the later files come, the look that fails, and what stays. The
-/// mappings are read, and the perf map is looked at and read; where nothing was kept, the status is
-/// read too.
+/// mappings and the looked-at perf map are read, and the status too where nothing was kept.
 static FAILS: [(Script, Script, Script); 7] = [
     (ALL_KEPT, &[Fail(1)], BOTH_STAY),
     (ALL_KEPT, &[Fail(2)], BOTH_STAY),

@@ -62,8 +62,7 @@ fn stays_looked_up(
         && !lookups.heeds_order()
 }
 
-/// Whether the addresses are looked up, and answered or refused as is told, with a count that nobody
-/// reads.
+/// Whether the addresses are looked up, and answered or refused as is told. Nobody reads the count.
 pub(crate) fn looks_up<L: Ledger>(
     alloc: Global,
     symbolizer: &mut Symbolizer,

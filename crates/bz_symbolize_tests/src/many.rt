@@ -16,8 +16,7 @@ use std::alloc::Global;
 use std::marker::Brand;
 use std::sync::ledger::{Blank, Ledger};
 
-/// Addresses that are asked for. They lie at equal steps through the file, and the steps come in an
-/// order.
+/// Addresses that are asked for, at equal steps through the file. The steps come in an order.
 #[derive(Drop)]
 pub(crate) struct Batch {
     /// How many addresses there are.
@@ -33,8 +32,7 @@ pub(crate) struct Batch {
     pub(crate) times: u32,
 }
 
-/// Puts the generated file of so many functions at `/s.sym`. Says whether they aren't too many, and
-/// memory was left.
+/// Puts the generated file of functions at `/s.sym`, if they aren't too many and memory is left.
 pub(crate) fn put_generated(alloc: Global, files: &mut MemFiles, functions: u64) -> bool {
     if functions > 100_000 {
         return false;
@@ -90,8 +88,7 @@ fn has_lines(symbol: &Sym<'_>, past: u64) -> bool {
     }
 }
 
-/// Whether the answer is that at the address so many bytes past the first one, and the same as the
-/// plain one.
+/// Whether the answer is that so many bytes past the first address, and the same as the plain one.
 fn is_right(answer: &Symbolized<'_>, plain: &Symbolized<'_>, past: u64, code_info: bool) -> bool {
     let is_as_told = match answer {
         Symbolized::Sym(symbol) => {
@@ -111,14 +108,9 @@ fn is_right_at(
     plain: &[Symbolized<'_>],
 ) -> bool {
     let step = step_at(index as u64, batch);
+    let past = batch.stride.wrapping_mul(step);
     let place = step as usize;
-    place < plain.len()
-        && is_right(
-            answer,
-            &plain[place],
-            batch.stride.wrapping_mul(step),
-            code_info,
-        )
+    place < plain.len() && is_right(answer, &plain[place], past, code_info)
 }
 
 /// Whether the answers are those of the batch, with code info or not, and the same as the plain ones.
@@ -207,8 +199,7 @@ fn looks_up<L: Ledger>(
     }
 }
 
-/// Whether calls answer so again and again, with a count of their steps and without, and once where
-/// they look up.
+/// Whether calls answer so again and again, with a count of steps and without, and once looked up.
 fn answers_often<L: Ledger>(
     alloc: Global,
     symbolizer: &mut Symbolizer,

@@ -87,8 +87,7 @@ pub(crate) fn put(alloc: Global, files: &mut MemFiles, path: &str, bytes: &[u8])
     }
 }
 
-/// Puts the bytes at the path under the stamp that it has. Says whether it has one, and memory was
-/// left.
+/// Puts the bytes at the path under its stamp. Says whether it has one, and memory was left.
 fn put_under_its_stamp(alloc: Global, files: &mut MemFiles, path: &str, bytes: &[u8]) -> bool {
     let Ok(stamp) = files.stat(path) else {
         return false;

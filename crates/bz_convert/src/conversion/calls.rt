@@ -21,9 +21,8 @@ use bz_breakpad::{Inlinee, SymbolFile};
 use bz_gsym_layout::Node;
 use std::alloc::{AllocError, Global};
 
-/// An inlined call that is sorted for a plan. The file's calls come by depth and start, and a plan
-/// has them by start and depth. `sort_table` goes by start and size, so the depth stands for the
-/// size here.
+/// An inlined call that is sorted for a plan, by start and depth. A file's come by depth and start.
+/// `sort_table` goes by start and size, so the depth stands for the size here.
 #[derive(Clone, Copy)]
 pub(crate) struct PlacedCall {
     pub call: Inlinee,
