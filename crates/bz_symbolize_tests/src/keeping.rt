@@ -211,7 +211,7 @@ const FILE_STAYS: Script = &[
 ];
 
 /// What is kept of the process before the later files come, the look that fails, and what stays. The
-/// mappings and the looked-at perf map are read, and the status too where nothing was kept.
+/// mappings are read, the perf map is looked at and read; the status is read if nothing was kept.
 static FAILS: [(Script, Script, Script); 7] = [
     (ALL_KEPT, &[Fail(1)], BOTH_STAY),
     (ALL_KEPT, &[Fail(2)], BOTH_STAY),

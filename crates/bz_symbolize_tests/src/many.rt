@@ -32,7 +32,7 @@ pub(crate) struct Batch {
     pub(crate) times: u32,
 }
 
-/// Puts the generated file of functions at `/s.sym`, if they aren't too many and memory is left.
+/// Puts the generated file of so many functions at `/s.sym`. Says whether it did.
 pub(crate) fn put_generated(alloc: Global, files: &mut MemFiles, functions: u64) -> bool {
     if functions > 100_000 {
         return false;
