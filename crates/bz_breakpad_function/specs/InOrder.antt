@@ -4,7 +4,7 @@ use Rattle.std.specs.Prelude.{◌≡◌, ℕ, List}
 use Rattle.bz_base.specs.Sorting.{sorted}
 use Rattle.bz_breakpad_function.specs.Indexed.{functions_in}
 use Rattle.bz_breakpad_lines.specs.Table.{Function, Inlinee, SourceLine}
-use Rattle.bz_breakpad_table.specs.LineRun.{IsLineRun, lines_in}
+use Rattle.bz_breakpad_table.specs.LineRun.{HasLastFeed, IsLineRun, lines_in}
 
 -- functions by start and size
 abbrev pub ordered_functions : List Function → List Function
@@ -22,7 +22,9 @@ lines_in_order f = sorted (λ l. l.start) (λ l. l.size) f.lines
 abbrev pub calls_in_order : Function → List Inlinee
 calls_in_order f = sorted (λ i. i.depth) (λ i. i.start) f.inlinees
 
--- the lines of the text are these line records, of which each starts after the one before it
+-- the lines of the text are these line records, of which each starts after the one before it,
+-- and the last one has its line feed
 pub record IsTextOfLines (text : List ℕ) (lines : List SourceLine) : Type 0 where
   pub run : IsLineRun text
+  pub ended : HasLastFeed text
   pub says : lines_in text ≡ lines

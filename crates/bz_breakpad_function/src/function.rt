@@ -130,7 +130,7 @@ impl<'a> Function<'a> {
     }
 
     /// The text of its line records, if they are known to stand in the file one after another, each
-    /// starting after the one before it. The last line may have its end or not.
+    /// starting after the one before it. Its last line has its line feed.
     pub fn line_text(&self) -> Option<&'a [u8]>
         ensures { IfSome result (λ text. IsTextOfLines text.now (lines_in_order self.now)) }
     {

@@ -9,7 +9,7 @@ ghost use Rattle.bz_breakpad_table.specs.Kept.{IsRunAt, kept_lines, text_at};
 ghost use Rattle.bz_breakpad_table.specs.LineRun.{IsRunFront, lines_in};
 
 use crate::line_run::run_front;
-use bz_breakpad_lines::{SourceLine, line_or_zeros, next_line_record};
+use bz_breakpad_lines::{SourceLine, line_or_zeros, known_line_record};
 use bz_breakpad_table::Part;
 use std::marker::Model;
 
@@ -127,7 +127,7 @@ fn first_of_run(text: &[u8], len: usize) -> FirstOfRun
     ensures positive { 0 < result.len }
     ensures within { result.len ≤ len }
 {
-    let next = next_line_record(text);
+    let next = known_line_record(text);
     let end = next.end + 1;
     if end < len {
         FirstOfRun {

@@ -1,6 +1,6 @@
 -- The fields of a line record that is known to stand in front: where bytes past space end,
 -- the digits of a field do.
-use Rattle.std.proofs.Common.{◌≡◌, ℕ, suc, ◌+◌, ◌-◌, ◌<◌, ◌≤◌, Bool, true, false, not, ◌==◌, List, [], ◌∷◌, ◌++◌, length, take, drop, nat_eq, Some, option_map, refl, sym, subst, ap, ap₂, ◌∙◌, arith, append_assoc, inl, inr, length-drop}
+use Rattle.std.proofs.Common.{◌≡◌, ℕ, suc, ◌+◌, ◌-◌, ◌<◌, ◌≤◌, Bool, true, false, not, ◌==◌, List, [], ◌∷◌, ◌++◌, length, take, drop, nat_eq, Some, refl, sym, subst, ap, ap₂, ◌∙◌, arith, append_assoc, inl, inr, length-drop}
 use Rattle.std.specs.Char.{digit_value, is_digit}
 use Rattle.std.specs.List.{prefix_len}
 use Rattle.std.specs.Prelude.{slice_index}
@@ -17,7 +17,7 @@ use Rattle.bz_breakpad_lines.specs.Choice.{IsBody, body_at}
 use Rattle.bz_breakpad_lines.specs.Form.{AllPass, Form, IsSeparator, Value, Spells}
 use Rattle.bz_breakpad_lines.specs.Form.Form.{End, ◌·◌}
 use Rattle.bz_breakpad_lines.specs.Form.Piece.{Decimal, Hex, Separator}
-use Rattle.bz_breakpad_lines.specs.Line.{line_front, line_in, source_line}
+use Rattle.bz_breakpad_lines.specs.Line.{line_front, source_line}
 use Rattle.bz_breakpad_lines.specs.LineStarts.{ReadsLine, line_read}
 use Rattle.bz_breakpad_lines.specs.QuickLine.{AreLineEnds, line_between}
 use Rattle.bz_breakpad_lines.specs.Reads.{form_at}
@@ -204,8 +204,8 @@ module _ (text : List ℕ) (reads : ReadsLine text 0) (start : ℕ) (ends : Line
   line_ends_are = record { of_start = first.0; of_size = second.0; of_line = third.0; of_file = fourth.0 }
 
   -- and tell what it tells
-  pub line_is : line_in text ≡ Some (source_line (line_between text start ends))
-  line_is = ap (option_map source_line) value.1 ∙ rw (first.1, second.1, third.1, fourth.1) refl
+  pub line_is : source_line (line_between text start ends) ≡ line_read text 0
+  line_is = rw (first.1, second.1, third.1, fourth.1) value.2
 
   -- a line feed behind them ends the line
   pub line_end_is : slice_index text ends.file ≡ line_feed → ends.file ≡ feed

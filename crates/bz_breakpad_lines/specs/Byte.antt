@@ -35,7 +35,7 @@ is_within_line b = not (b == line_feed || b == carriage_return)
 abbrev pub is_ascii_in_line : ℕ → Bool
 is_ascii_in_line b = is_ascii b && is_within_line b
 
--- one after space, as the bytes of numbers and of names are
+-- one after space, as digits and letters are
 abbrev pub is_past_space : ℕ → Bool
 is_past_space b = nat_lt space b
 

@@ -8,6 +8,7 @@ pub mod Kinds
 pub mod Line
 pub mod LineStarts
 pub mod Names
+pub mod NextLine
 pub mod Printed
 pub mod Quick
 pub mod QuickLine

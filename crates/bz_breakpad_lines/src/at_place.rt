@@ -12,10 +12,10 @@ ghost use Rattle.bz_breakpad_lines.specs.Reads.{piece_at};
 ghost use Rattle.bz_breakpad_lines.specs.Told.{line_seen, call_told};
 
 use crate::field::{body, hex_field};
-use crate::in_turn::quick_next;
 use crate::inline::call_line;
 use crate::lanes::{few_hex, line_feeds};
-use crate::line::LineEnds;
+use crate::line::{LineEnds, line_ends};
+use crate::quick::Shown;
 use crate::record::{InlineCall, SourceLine, call_front, line_record};
 use crate::values::{dec_between, hex_between, hex_front};
 use memchr::memchr;
@@ -63,10 +63,21 @@ pub fn line_record_at(bytes: &[u8], place: usize) -> Option<SourceLine>
         return None;
     }
     let text = &bytes[place..];
-    match quick_next(text) {
-        Some(next) => Some(next.line),
+    match shown_line(text) {
+        Some(line) => Some(line),
         None => any_line(text),
     }
+}
+
+/// The line record that the first line of the text is, if one load shows the whole line.
+#[inline(always)]
+fn shown_line(text: &[u8]) -> Option<SourceLine>
+    ensures { IfSome result (λ line. line_in text.now ≡ Some (line_seen line)) }
+{
+    let shown = Shown::of_line(text)?;
+    let start = shown.hex_end(0, 8)?;
+    let ends = line_ends(shown, start)?;
+    Some(line_by(shown.text, start, ends))
 }
 
 /// The line record at the front whose fields end there.

@@ -1,17 +1,13 @@
 //! Line records that stand one after another.
 
-ghost use Rattle.std.specs.Prelude.{◌≡◌, ◌+◌, ◌<◌, ◌≤◌, ◌==◌, ℕ, List, not, Some, length, IfSome};
-ghost use Rattle.std.specs.List.{prefix_len};
-ghost use Rattle.bz_base.specs.Byte.{line_feed};
-ghost use Rattle.bz_breakpad_lines.specs.Line.{line_in};
-ghost use Rattle.bz_breakpad_lines.specs.LineStarts.{ReadsLine, line_read};
+ghost use Rattle.std.specs.Prelude.{◌+◌, ◌<◌, ◌≤◌, ℕ, List, IfSome};
+ghost use Rattle.bz_breakpad_lines.specs.LineStarts.{ReadsLine};
+ghost use Rattle.bz_breakpad_lines.specs.NextLine.{IsNextLine};
 ghost use Rattle.bz_breakpad_lines.specs.Stops.{AreFieldStops, IsField};
-ghost use Rattle.bz_breakpad_lines.specs.Told.{line_seen};
 
 use crate::at_place::{line_by, line_len, line_or_zeros};
 use crate::lanes::space_stops;
-use crate::line::{LineEnds, line_ends};
-use crate::quick::Shown;
+use crate::line::LineEnds;
 use crate::record::SourceLine;
 
 /// The line record at the front of a text, and where its line ends.
@@ -26,11 +22,9 @@ pub struct NextLine {
 /// The line record that the first line of the text is, where one is read: only where its fields end
 /// is looked for.
 #[inline(always)]
-pub fn next_line_record(text: &[u8]) -> NextLine
+pub fn known_line_record(text: &[u8]) -> NextLine
     requires { ReadsLine text.now 0 }
-    ensures line { line_seen result.line ≡ line_read text.now 0 }
-    ensures end { result.end ≡ prefix_len (λ b. not (b == line_feed)) text.now }
-    ensures within { result.end ≤ length text.now }
+    ensures { IsNextLine text.now result }
 {
     match plain_next(text) {
         Some(next) => next,
@@ -42,9 +36,7 @@ pub fn next_line_record(text: &[u8]) -> NextLine
 #[inline(always)]
 fn plain_next(text: &[u8]) -> Option<NextLine>
     requires { ReadsLine text.now 0 }
-    ensures line { IfSome result (λ next. line_in text.now ≡ Some (line_seen next.line)) }
-    ensures end { IfSome result (λ next. next.end ≡ prefix_len (λ b. not (b == line_feed)) text.now) }
-    ensures within { IfSome result (λ next. next.end ≤ length text.now) }
+    ensures { IfSome result (IsNextLine text.now) }
 {
     if text.len() < 40 {
         return None;
@@ -80,6 +72,7 @@ struct FieldEnd {
 #[inline(always)]
 fn field_end(stops: u64, from: u32) -> Option<FieldEnd>
     requires { from < 56 }
+    ensures near { IfSome result (λ end. end.at ≤ from + 8) }
     ensures field { IfSome result (λ end. (text : List ℕ) → AreFieldStops text from stops → IsField text from end.at) }
     ensures later { IfSome result (λ end. (text : List ℕ) → AreFieldStops text from stops → AreFieldStops text (end.at + 1) end.later) }
 {
@@ -93,32 +86,9 @@ fn field_end(stops: u64, from: u32) -> Option<FieldEnd>
     })
 }
 
-/// The line record that the first line of the text is, if one load shows the whole line.
-#[inline(always)]
-pub(crate) fn quick_next(text: &[u8]) -> Option<NextLine>
-    ensures line { IfSome result (λ next. line_in text.now ≡ Some (line_seen next.line)) }
-    ensures end { IfSome result (λ next. next.end ≡ prefix_len (λ b. not (b == line_feed)) text.now) }
-    ensures within { IfSome result (λ next. next.end ≤ length text.now) }
-{
-    let shown = Shown::of_line(text)?;
-    // The next line's place hangs on this alone, and not on the fields one after another.
-    let end = shown.stops.end.trailing_zeros();
-    let start = shown.hex_end(0, 8)?;
-    let ends = line_ends(shown, start)?;
-    if ends.file != end {
-        return None;
-    }
-    Some(NextLine {
-        line: line_by(shown.text, start, ends),
-        end: end as usize,
-    })
-}
-
 /// The same of any text.
 fn any_next(text: &[u8]) -> NextLine
-    ensures line { line_seen result.line ≡ line_read text.now 0 }
-    ensures end { result.end ≡ prefix_len (λ b. not (b == line_feed)) text.now }
-    ensures within { result.end ≤ length text.now }
+    ensures { IsNextLine text.now result }
 {
     NextLine {
         line: line_or_zeros(text, 0),

@@ -20,7 +20,7 @@ mod values;
 pub use at_place::{call_at, line_len, line_or_zeros, line_record_at, start_at, start_of};
 pub use field::body;
 pub use func::{cfi_line, func_line};
-pub use in_turn::{NextLine, next_line_record};
+pub use in_turn::{NextLine, known_line_record};
 pub use inline::inline_line;
 pub use lanes::{Stops, line_feeds};
 pub use line::{QuickLine, quick_line};

@@ -1,9 +1,8 @@
 -- What is kept of a file, as its bytes say it.
 -- Its records are those of Breakpad's docs/symbol_files.md.
-use Rattle.std.specs.Prelude.{◌≡◌, ◌<◌, ◌≤◌, ◌-◌, ℕ, List, [], ◌∷◌, ◌++◌, length, drop, map, Option, Some, option_map, IsUtf8, slice_index, slice_range, IfSome, IsSome}
+use Rattle.std.specs.Prelude.{◌≡◌, ◌<◌, ◌≤◌, ◌-◌, ℕ, List, [], ◌∷◌, ◌++◌, length, drop, map, Option, Some, option_map, IsUtf8, slice_range, IfSome, IsSome}
 use Rattle.std.specs.List.{AllByRecursion, filter_map}
 use Rattle.std.specs.Map.{values_of}
-use Rattle.bz_base.specs.Byte.{line_feed}
 use Rattle.bz_base.specs.Line.{ended_lines}
 use Rattle.bz_base.specs.Nearest.{IsTable}
 use Rattle.bz_base.specs.Starts.{NeverDescends}
@@ -12,7 +11,7 @@ use Rattle.bz_breakpad_table.specs.CallRanges.{call_start}
 use Rattle.bz_breakpad_lines.specs.Choice.{body_at}
 use Rattle.bz_breakpad_lines.specs.Line.{line_front, line_in}
 use Rattle.bz_breakpad_table.specs.LineKeys.{places_of}
-use Rattle.bz_breakpad_table.specs.LineRun.{AreLineRecords, IsLineRun, IsOpenRun, lines_in}
+use Rattle.bz_breakpad_table.specs.LineRun.{AreLineRecords, HasLastFeed, IsLineRun, IsOpenRun, lines_in}
 use Rattle.bz_breakpad_lines.specs.LineStarts.{line_size, line_start, line_starts}
 use Rattle.bz_breakpad_lines.specs.Reader.{Reading}
 use Rattle.bz_breakpad_lines.specs.Table.{SourceLine, Inlinee, Function, PublicSymbol, Table}
@@ -154,8 +153,7 @@ pub record IsPart (count : ℕ) (part : Part) : Type 0 where
 pub record IsRunAt (bytes : List ℕ) (part : Part) : Type 0 where
   pub within : IsPart (length bytes) part
   pub run : IsLineRun (text_at bytes part)
-  -- its last line has its line feed, if it has lines
-  pub ended : 0 < length (text_at bytes part) → slice_index (text_at bytes part) (length (text_at bytes part) - 1) ≡ line_feed
+  pub ended : HasLastFeed (text_at bytes part)
 
 -- the line records at a part of the places stand by start and size
 pub record AreLinesAt (bytes places : List ℕ) (part : Part) : Type 0 where

@@ -26,6 +26,10 @@ pub record IsLineRun (text : List ℕ) : Type 0 where
   pub read : AreLineRecords text
   pub ascend : StrictlyAscends (starts_in text)
 
+-- the last line of the text has its line feed, if it has lines
+abbrev pub HasLastFeed : List ℕ → Type 0
+HasLastFeed text = 0 < length text → slice_index text (length text - 1) ≡ line_feed
+
 -- a run that may go on: its last line has its end, and of the last start the text is known
 pub record IsOpenRun (text : List ℕ) (last : StartText) : Type 0 where
   pub read : AreLineRecords text

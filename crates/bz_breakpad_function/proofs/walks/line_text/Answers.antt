@@ -9,5 +9,6 @@ returns-in-Run c =
     let at : IsRunAt bytes c.in-Run.part = subst (LinesFit bytes places) c.in-Run.is c.requires.lines in
     record {
       run = at.run;
+      ended = at.ended;
       says = sym (ap (λ lines. records_of bytes places lines) c.in-Run.is);
     }
