@@ -12,6 +12,7 @@ pub mod Kept
 pub mod LaneLemmas
 pub mod LineFieldLemmas
 pub mod LineFrontLemmas
+pub mod LongValueLemmas
 pub mod NameLemmas
 pub mod Pieces
 pub mod PrintableLaws

@@ -1,4 +1,4 @@
-use Rattle.bz_breakpad_lines.proofs.ValueLemmas.{dec_at_front}
+use Rattle.bz_breakpad_lines.proofs.LongValueLemmas.{dec_at_front}
 use Rattle.bz_breakpad_lines.proofs.values.dec_front.Goals as goal
 
 pub returns : goal.returns

@@ -1,4 +1,4 @@
-use Rattle.bz_breakpad_lines.proofs.ValueLemmas.{hex_at_front}
+use Rattle.bz_breakpad_lines.proofs.LongValueLemmas.{hex_at_front}
 use Rattle.bz_breakpad_lines.proofs.values.hex_front.Goals as goal
 
 pub returns : goal.returns
