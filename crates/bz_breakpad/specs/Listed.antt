@@ -1,4 +1,4 @@
--- What a file lists beside its functions: its PUBLIC records, and the ids of names.
+-- What a file lists besides its functions: its PUBLIC records, and the ids of names.
 use Rattle.std.specs.Prelude.{ℕ, List, [], Option, Some, None}
 use Rattle.bz_base.specs.Sorting.{sorted}
 use Rattle.bz_breakpad_lines.specs.Reader.{table_in}

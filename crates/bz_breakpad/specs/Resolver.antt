@@ -28,8 +28,8 @@ opened None = Err errors.NotFound
 opened (Some Denied) = Err errors.PermissionDenied
 opened (Some (Present stamp bytes)) = read_of bytes (table_in bytes)
 
--- a symbol as a table of symbols gives it, without an address's distance from its start and without the
--- mark of a PUBLIC record
+-- a symbol as a table of symbols gives it, without an address's distance from its start and without
+-- the field `public`
 abbrev pub resolved_in : Symbol → Resolved
 resolved_in s = record {
   name = s.name;
@@ -47,13 +47,13 @@ found_in (Ok (Known s)) = Ok (Ok (resolved_in s))
 found_in (Ok (Unknown reason)) = Ok (Err reason)
 found_in (Err e) = Err e
 
--- the answer without the mark of a PUBLIC record
+-- the answer with the field `public` false
 abbrev pub unmarked : Result Answer Error → Result Answer Error
 unmarked (Ok (Known s)) = Ok (Known (record s { public = false }))
 unmarked (Ok (Unknown reason)) = Ok (Unknown reason)
 unmarked (Err e) = Err e
 
--- the answer with the mark of a PUBLIC record, or without it
+-- the answer with this field `public`
 abbrev pub marked : Bool → Answer → Answer
 marked public (Known s) = Known (record s { public = public })
 marked public (Unknown reason) = Unknown reason

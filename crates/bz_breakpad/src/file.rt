@@ -131,7 +131,7 @@ impl SymbolFile {
     }
 
     /// The id at an index, in the order of the ids of FILE records. Where they don't come one after
-    /// another from 0 on, those before it are passed over.
+    /// another from 0 on, finding it takes a walk over those before it.
     pub fn file_id(&self, index: usize) -> u32
         requires { index < length (files_in self.now) }
         ensures { slice_get (keys_of (files_in self.now)) index ≡ Some result }
@@ -156,7 +156,7 @@ impl SymbolFile {
     }
 
     /// The id at an index, in the order of the ids of INLINE_ORIGIN records. Where they don't come one
-    /// after another from 0 on, those before it are passed over.
+    /// after another from 0 on, finding it takes a walk over those before it.
     pub fn origin_id(&self, index: usize) -> u32
         requires { index < length (origins_in self.now) }
         ensures { slice_get (keys_of (origins_in self.now)) index ≡ Some result }
@@ -291,7 +291,7 @@ impl SymbolFile {
         batch.answers(alloc, opts)
     }
 
-    /// The answer at an address alone whose record was found, relative to the module's base.
+    /// The answer at an address alone, relative to the module's base, for which a record was found.
     /// InvalidInput: an id of a file or of an origin there names nothing,
     /// or a source name has no component.
     pub fn answer_by(

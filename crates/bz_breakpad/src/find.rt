@@ -179,10 +179,8 @@ pub(crate) fn function_index(kept: &KeptTable, place: Option<usize>, addr: Addr)
     requires { IsAt (starts_of kept.now.code) addr place }
     ensures { OfItsTable kept.now (λ table. IsFunctionOr table addr result) }
 {
-    match covering_at(&kept.code.keys, place, addr) {
-        Some(key) => Some(key.index),
-        None => None,
-    }
+    let key = covering_at(&kept.code.keys, place, addr)?;
+    Some(key.index)
 }
 
 /// Whether a function starts between two addresses, or at one of them.

@@ -13,7 +13,7 @@ pub enum FoundRecord {
     Function(u32),
     /// The PUBLIC record of an index, in the order of the file.
     Public(u32),
-    /// None.
+    /// No record answers.
     Absent,
 }
 

@@ -31,7 +31,7 @@ pub struct SymInfo<'a> {
     pub size: Option<usize>,
     /// What the symbol names.
     pub sym_type: SymType,
-    /// Where it lies in the file that the source describes.
+    /// Where it lies in the file that the source describes, in bytes from that file's beginning.
     pub file_offset: Option<u64>,
     /// The module that the symbol is in.
     pub module: Option<&'a str>,

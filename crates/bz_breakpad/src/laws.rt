@@ -78,7 +78,7 @@ pub fn answers_lie_at_their_addresses()
     ensures { (table : Table) (opts : FindSymOpts) (addr : ℕ) (s : Symbol) → plain table opts addr ≡ Ok (Known s) → s.addr + s.offset ≡ addr }
 {}
 
-/// What a resolver finds is the plain answer at the address, but for the mark of a PUBLIC record.
+/// What a resolver finds is the plain answer at the address, but for the field `public`.
 pub fn found_symbols_are_plain()
     ensures { (table : Table) (opts : FindSymOpts) (addr : ℕ) (found : Result Resolved Reason) → found_in (plain table opts addr) ≡ Ok found →
         unmarked (plain table opts addr) ≡ Ok (answer_at addr found) }

@@ -1,6 +1,6 @@
 //! The symbol of the record that was found for an address, as a table of symbols gives it.
 
-ghost use Rattle.std.specs.Prelude.{◌≡◌, ◌<◌, ◌≤◌, ◌+◌, ℕ, length, option_map, IfOk, IfErr, IfSome};
+ghost use Rattle.std.specs.Prelude.{◌≡◌, ◌<◌, ◌+◌, ℕ, length, option_map, IfOk, IfErr, IfSome};
 ghost use Rattle.bz_base.specs.Answer.{resolved_of};
 ghost use Rattle.bz_base.specs.Lent.{IsLentResolved};
 ghost use Rattle.bz_base.specs.Refusals.{WantsMemory};

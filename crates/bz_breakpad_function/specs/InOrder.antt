@@ -22,8 +22,8 @@ lines_in_order f = sorted (λ l. l.start) (λ l. l.size) f.lines
 abbrev pub calls_in_order : Function → List Inlinee
 calls_in_order f = sorted (λ i. i.depth) (λ i. i.start) f.inlinees
 
--- the lines of the text are these line records, of which each starts after the one before it,
--- and the last one has its line feed
+-- the lines of the text are these line records, each of which starts after the one before it.
+-- The last one has its line feed
 pub record IsTextOfLines (text : List ℕ) (lines : List SourceLine) : Type 0 where
   pub run : IsLineRun text
   pub ended : HasLastFeed text

@@ -103,7 +103,7 @@ impl<'a> Function<'a> {
     }
 
     /// The line record at an index, in the order of start and size; those that are alike in both stand
-    /// as in the file. The records before it may be passed over.
+    /// as in the file. Finding it may take a walk over those before it.
     pub fn line(&self, index: usize) -> SourceLine
         requires { index < length self.now.lines }
         ensures { slice_get (lines_in_order self.now) index ≡ Some (line_seen result) }
@@ -194,10 +194,7 @@ fn inlinee_at(bytes: &[u8], ranges: &[CallRange], depth: u32, addr: Addr) -> Opt
     ensures { (records : List CallRange) → IsTable (λ c. c.depth) call_start records ranges.now →
         option_map inlinee_seen result ≡ option_map (kept_call bytes.now) (around (λ c. c.depth) call_start (λ c. c.size) addr (inner (λ c. c.depth) call_start depth addr records)) }
 {
-    match around_in(ranges, depth, addr) {
-        Some(range) => Some(inlinee_of(bytes, range)),
-        None => None,
-    }
+    Some(inlinee_of(bytes, around_in(ranges, depth, addr)?))
 }
 
 /// The inlined calls of ranges, with what their records say.

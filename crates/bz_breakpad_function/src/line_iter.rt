@@ -9,7 +9,7 @@ ghost use Rattle.bz_breakpad_table.specs.Kept.{IsRunAt, kept_lines, text_at};
 ghost use Rattle.bz_breakpad_table.specs.LineRun.{IsRunFront, lines_in};
 
 use crate::line_run::run_front;
-use bz_breakpad_lines::{SourceLine, line_or_zeros, known_line_record};
+use bz_breakpad_lines::{SourceLine, known_line_record, line_or_zeros};
 use bz_breakpad_table::Part;
 use std::marker::Model;
 
@@ -26,7 +26,7 @@ enum LinesLeft<'a> {
     Run {
         /// The rest of the bytes, from the next record on.
         text: &'a [u8],
-        /// How many of them the records are.
+        /// How many of those bytes the records take.
         len: usize,
     },
     /// At places in the bytes.

@@ -122,8 +122,8 @@ impl Guess {
     }
 
     /// Where its run is to be cut for the address. The first place is the line after a place a
-    /// little before the guess. The second is guessed again, from that line and its start, and a
-    /// little past.
+    /// little before the guess. The second is guessed again, from that line and its start: a little
+    /// past, or a little before where that line starts above the address.
     pub fn cuts(&self, bytes: &[u8], addr: Addr) -> Cuts {
         match bytes.get(self.run.from as usize..) {
             Some(text) => self.cuts_in(text, addr),
@@ -192,7 +192,7 @@ fn cut_by(text: &[u8], len: usize, hint: usize) -> Option<usize>
     }
 }
 
-/// Whether a line begins at a place within the text.
+/// True only where a line begins at a place within the text.
 #[inline(always)]
 fn is_cut(text: &[u8], place: usize) -> bool
     ensures { result ≡ true → IsCut text.now place }

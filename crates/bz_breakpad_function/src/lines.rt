@@ -61,10 +61,8 @@ pub(crate) fn line_covering<L: Ledger>(
 {
     let mut steps = Steps::<L>::new(blank);
     let starts = LineStarts { bytes, places };
-    match nearest(&starts, addr, &mut steps) {
-        Some((index, _)) => line_if_covers(bytes, places[index], addr),
-        None => None,
-    }
+    let (index, _) = nearest(&starts, addr, &mut steps)?;
+    line_if_covers(bytes, places[index], addr)
 }
 
 /// The line record at a place, if it covers the address.

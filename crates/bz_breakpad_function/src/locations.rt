@@ -34,7 +34,7 @@ pub struct Location<'f> {
     pub inlined: Vec<InlinedFn<'f>>,
 }
 
-/// Where the address lies, as far as the options ask for it. It is the same whatever the hints are.
+/// Where an address relative to the module's base lies, as the options ask. Hints change nothing.
 pub fn location_at<'f>(
     alloc: Global,
     bytes: &'f [u8],
@@ -136,7 +136,7 @@ pub(crate) fn inlinees_of<'f>(code: &'f FunctionTable, function: &KeptFunction) 
     &code.inlinees[part.from as usize..part.to as usize]
 }
 
-/// A line of the file of an id; none if the id or its name's file isn't known.
+/// A line of the file of an id; none if the id names nothing, or its name has no component.
 fn site_in<'f>(bytes: &'f [u8], kept: &'f KeptTable, file: u32, line: u32) -> Option<CodeInfo<'f>>
     requires { NamesFit bytes.now kept.now.files }
     ensures site { (table : Table) → StandsFor bytes.now table kept.now → option_map site_of result ≡ site_in table file line }
@@ -156,10 +156,7 @@ fn lent(dir: Option<&str>) -> Option<CowStr<'_>>
     ensures text { option_map cow_str_bytes result ≡ option_map (λ text. text.now) dir.entry }
     ensures lent { IfSome result IsLentText }
 {
-    match dir {
-        Some(dir) => Some(CowStr::Borrowed(dir)),
-        None => None,
-    }
+    Some(CowStr::Borrowed(dir?))
 }
 
 /// Where the code of a line record lies, seen from outside the calls around it.

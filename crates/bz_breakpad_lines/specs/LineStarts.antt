@@ -33,8 +33,8 @@ StrictlyAscends starts = (i j : ℕ) → i < j → j < length starts → slice_i
 abbrev pub folded : ℕ → ℕ
 folded byte = bit_or byte 32
 
--- the text of a start: how many digits it has, one to eight, and their bytes as one number,
--- the first byte its greatest; letters count there as in lower case
+-- the text of a start: how many digits it has, one to eight, and their bytes as one number.
+-- The first byte is its greatest, and letters count there as in lower case
 pub record IsStartText (start : ℕ) (text : StartText) : Type 0 where
   pub digits : List ℕ
   pub are_digits : AllDigits 16 digits

@@ -1,4 +1,4 @@
--- What is told of a line record before the one behind it is read.
+-- The line record at the front of a text ("Line records" of Breakpad's docs/symbol_files.md).
 use Rattle.std.specs.Prelude.{◌≡◌, ◌≤◌, ◌==◌, List, ℕ, length, not}
 use Rattle.std.specs.List.{prefix_len}
 use Rattle.bz_base.specs.Byte.{line_feed}

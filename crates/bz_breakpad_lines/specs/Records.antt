@@ -9,7 +9,7 @@ use Rattle.bz_breakpad_lines.specs.Form.Piece.{Tag, Mark, Separator, ModuleSepar
 use Rattle.bz_breakpad_lines.specs.Form.Form.{End, Name, SeparatorText, Many, ◌·◌}
 use Rattle.bz_breakpad_lines.specs.Reads.{IsReadExactly}
 
--- the mark "m" of FUNC and PUBLIC records, whose function or symbol stands in several places
+-- the mark "m" of FUNC and PUBLIC records, to whose code several symbols refer
 abbrev pub letter_m : ℕ
 letter_m = 109
 

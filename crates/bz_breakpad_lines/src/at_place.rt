@@ -59,10 +59,7 @@ fn any_len(text: &[u8]) -> usize
 pub fn line_record_at(bytes: &[u8], place: usize) -> Option<SourceLine>
     ensures { option_map line_seen result ≡ line_in (drop place bytes.now) }
 {
-    if place > bytes.len() {
-        return None;
-    }
-    let text = &bytes[place..];
+    let text = bytes.get(place..)?;
     match shown_line(text) {
         Some(line) => Some(line),
         None => any_line(text),
@@ -117,7 +114,7 @@ pub fn line_or_zeros(bytes: &[u8], place: usize) -> SourceLine
     }
 }
 
-/// Where the code of the line record at a place starts.
+/// Where the code of the line record at a place starts, relative to the module's base.
 #[inline(always)]
 pub fn start_at(bytes: &[u8], place: usize) -> u64
     requires { ReadsLine bytes.now place }
@@ -178,10 +175,7 @@ pub fn call_at(bytes: &[u8], place: usize) -> InlineCall
 fn call_from(bytes: &[u8], place: usize) -> Option<InlineCall>
     ensures { option_map call_told result ≡ call_in (drop place bytes.now) }
 {
-    if place > bytes.len() {
-        return None;
-    }
-    let text = &bytes[place..];
+    let text = bytes.get(place..)?;
     if let Some((call, _after)) = call_line(text) {
         return Some(call);
     }

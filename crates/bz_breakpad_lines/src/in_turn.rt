@@ -19,8 +19,8 @@ pub struct NextLine {
     pub end: usize,
 }
 
-/// The line record that the first line of the text is, where one is read: only where its fields end
-/// is looked for.
+/// The line record that the first line of the text is known to be. Only where its fields end is
+/// looked for.
 #[inline(always)]
 pub fn known_line_record(text: &[u8]) -> NextLine
     requires { ReadsLine text.now 0 }
@@ -32,7 +32,7 @@ pub fn known_line_record(text: &[u8]) -> NextLine
     }
 }
 
-/// The same, if one load shows the whole line, and single spaces divide its fields.
+/// The same, if one load shows the line, and single blanks divide its fields of at most 8 digits.
 #[inline(always)]
 fn plain_next(text: &[u8]) -> Option<NextLine>
     requires { ReadsLine text.now 0 }

@@ -20,7 +20,7 @@ pub struct Stops {
 }
 
 impl Stops {
-    /// The first 64 bytes.
+    /// The bits of the first 64 bytes.
     #[inline(always)]
     pub fn at_front(text: &[u8]) -> Stops
         requires { 64 ≤ length text.now }
@@ -34,7 +34,7 @@ impl Stops {
         }
     }
 
-    /// The first 32 bytes, which show nearly all line records.
+    /// The bits of the first 32 bytes, which show nearly all line records.
     #[inline(always)]
     pub(crate) fn of_line(text: &[u8]) -> Stops
         requires { 32 ≤ length text.now }
@@ -47,7 +47,7 @@ impl Stops {
         }
     }
 
-    /// Those after so many of them.
+    /// The bits that are left after so many bytes.
     #[inline(always)]
     pub fn after(self, len: usize) -> Stops
         requires { len < 64 }

@@ -1,6 +1,6 @@
 //! Line records, the quick way.
 
-ghost use Rattle.std.specs.Prelude.{◌≡◌, ◌∷◌, ◌+◌, ◌<◌, ◌≤◌, ◌==◌, Option, Some, length, map, take, drop, IfSome};
+ghost use Rattle.std.specs.Prelude.{◌≡◌, ◌∷◌, ◌+◌, ◌<◌, ◌≤◌, Option, Some, length, take, drop, IfSome};
 ghost use Rattle.std.specs.Str.Parse.{digits_value};
 ghost use Rattle.bz_base.specs.Byte.{line_feed};
 ghost use Rattle.bz_breakpad_lines.specs.LineStarts.{IsStartText};
@@ -9,11 +9,9 @@ ghost use Rattle.bz_breakpad_lines.specs.Reads.{reads};
 ghost use Rattle.bz_breakpad_lines.specs.Records.{LINE};
 ghost use Rattle.bz_breakpad_lines.specs.Stops.{AreDigits, AreStops};
 ghost use Rattle.bz_breakpad_lines.specs.declared.start_text.StartText.{StartText};
-ghost use lib.Lanes.{mask_l};
 
 use crate::quick::Shown;
 use crate::start_text::StartText;
-use std::simd::prelude::*;
 
 /// A line record that is read quickly.
 #[derive(Clone, Copy)]

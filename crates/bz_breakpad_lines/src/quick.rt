@@ -38,7 +38,7 @@ impl<'a> Shown<'a> {
         })
     }
 
-    /// What a load shows of the text's first line, if that has room for the numbers of a line record.
+    /// The same of its first 32 bytes, for a line record. None if there aren't eight bytes more.
     #[inline(always)]
     pub(crate) fn of_line(text: &'a [u8]) -> Option<Shown<'a>>
         ensures text { IfSome result (λ shown. shown.text.now ≡ text.now) }
@@ -69,7 +69,7 @@ impl<'a> Shown<'a> {
         }
     }
 
-    /// Whether so many hexadecimal digits stand at the front, and a shown byte ends them.
+    /// True only where so many hexadecimal digits stand at the front, and a shown byte ends them.
     #[inline(always)]
     pub(crate) fn has_hex(self, digits: u32) -> bool
         requires stops { AreStops self.text.now self.stops }

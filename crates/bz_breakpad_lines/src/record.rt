@@ -57,7 +57,7 @@ fn func(line: &[u8]) -> Option<FuncLine<'_>>
     })
 }
 
-/// A line record.
+/// The line record that the body is.
 pub fn line_record(line: &[u8]) -> Option<SourceLine>
     ensures { option_map line_told result ≡ form_at LINE line.now }
 {

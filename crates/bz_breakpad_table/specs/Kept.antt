@@ -1,6 +1,6 @@
 -- What is kept of a file, as its bytes say it.
 -- Its records are those of Breakpad's docs/symbol_files.md.
-use Rattle.std.specs.Prelude.{◌≡◌, ◌<◌, ◌≤◌, ◌-◌, ℕ, List, [], ◌∷◌, ◌++◌, length, drop, map, Option, Some, option_map, IsUtf8, slice_range, IfSome, IsSome}
+use Rattle.std.specs.Prelude.{◌≡◌, ◌≤◌, ◌-◌, ℕ, List, [], ◌∷◌, ◌++◌, length, drop, map, Option, Some, option_map, IsUtf8, slice_range, IfSome, IsSome}
 use Rattle.std.specs.List.{AllByRecursion, filter_map}
 use Rattle.std.specs.Map.{values_of}
 use Rattle.bz_base.specs.Line.{ended_lines}
@@ -12,7 +12,7 @@ use Rattle.bz_breakpad_lines.specs.Choice.{body_at}
 use Rattle.bz_breakpad_lines.specs.Line.{line_front, line_in}
 use Rattle.bz_breakpad_table.specs.LineKeys.{places_of}
 use Rattle.bz_breakpad_table.specs.LineRun.{AreLineRecords, HasLastFeed, IsLineRun, IsOpenRun, lines_in}
-use Rattle.bz_breakpad_lines.specs.LineStarts.{line_size, line_start, line_starts}
+use Rattle.bz_breakpad_lines.specs.LineStarts.{ReadsLine, line_size, line_start, line_starts}
 use Rattle.bz_breakpad_lines.specs.Reader.{Reading}
 use Rattle.bz_breakpad_lines.specs.Table.{SourceLine, Inlinee, Function, PublicSymbol, Table}
 use Rattle.bz_breakpad_table.specs.declared.functions.FunctionsReading.{FunctionsReading}
@@ -29,7 +29,6 @@ use Rattle.bz_breakpad_table.specs.declared.types.LineKey.{LineKey}
 use Rattle.bz_breakpad_table.specs.declared.types.LineRecords.{LineRecords}
 use Rattle.bz_breakpad_table.specs.declared.types.LineRecords.TheVariants as records
 use Rattle.bz_breakpad_table.specs.declared.types.Part.{Part}
-use Rattle.bz_breakpad_lines.specs.LineStarts.{ReadsLine}
 
 -- the body of a record stands at a place in the bytes: it is that of the text from there to the line's
 -- end

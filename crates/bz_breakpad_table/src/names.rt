@@ -54,7 +54,7 @@ impl Names {
     }
 
     /// The id at an index, in the order of the ids. Where they don't come one after another from 0 on,
-    /// those before it are passed over.
+    /// finding it takes a walk over those before it.
     pub fn id_at(&self, index: usize) -> u32
         requires { index < length self.now }
         ensures { slice_get (keys_of self.now) index ≡ Some result }
@@ -170,10 +170,8 @@ pub fn name_of<'a>(bytes: &'a [u8], names: &Names, id: u32) -> Option<&'a str>
     requires { NamesFit bytes.now names.now }
     ensures { option_map (λ name. name.now) result ≡ name_for id (kept_names bytes.now names.now) }
 {
-    match names.get(id) {
-        Some(part) => Some(text_of(bytes, part)),
-        None => None,
-    }
+    let part = names.get(id)?;
+    Some(text_of(bytes, part))
 }
 
 /// The text at a part of the bytes.

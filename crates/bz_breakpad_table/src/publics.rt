@@ -9,7 +9,7 @@ use crate::types::KeptPublic;
 use bz_base::{Spanned, Starts, sort_table};
 use std::alloc::{AllocError, Global};
 
-/// By what a PUBLIC record is found, and where it stands.
+/// By what PUBLIC records are put in order: the start, and the index where others have a size.
 #[derive(Clone, Copy)]
 pub struct PublicKey {
     /// Where the symbol starts, relative to the module's base.
@@ -78,7 +78,7 @@ pub fn public_table(alloc: Global, publics: &[KeptPublic]) -> Result<PublicTable
     table_of(alloc, &keys)
 }
 
-/// Whether no record starts below the one before it.
+/// True only where no record starts below the one before it.
 fn ascend(publics: &[KeptPublic]) -> bool
     ensures { result ≡ true → NeverDescends (starts_kept publics.now) }
 {

@@ -17,8 +17,8 @@ use bz_breakpad_lines::StartText;
 pub enum LinesSoFar {
     /// There are none.
     Empty,
-    /// They stand one after another in this part of the file's bytes, and each starts after the one
-    /// before it; the text of the last start.
+    /// They stand one after another in this part of the file's bytes, each starting after the one
+    /// before it. The text is that of the last start.
     Run(Part, StartText),
     /// Their keys are listed.
     Listed,
@@ -32,9 +32,7 @@ impl LinesSoFar {
         ensures { IfSome result (λ more. (bytes : List ℕ) (keys : List LineKey) (rest : List ℕ) (line : QuickLine) (is : IsQuickLine rest line) → drop part.from bytes ≡ rest →
             part.to ≡ part.from + line.len → start ≡ line.start → LinesFitSoFar bytes keys self → IsLonger bytes keys keys self more (source_line is.value)) }
     {
-        let Some(start) = start else {
-            return None;
-        };
+        let start = start?;
         match self {
             LinesSoFar::Empty => Some(LinesSoFar::Run(part, start)),
             LinesSoFar::Run(run, last) if run.to == part.from && last.is_below(start) => {

@@ -5,8 +5,8 @@ ghost use Rattle.std.specs.Prelude.{◌≡◌, ◌≤◌, IsOk, IfOk};
 use crate::names::Names;
 use std::alloc::AllocError;
 
-/// A part of the file's bytes or of a table: from the first of its places up to the last, which
-/// isn't in it. Places take four bytes, since most of what is kept of a file is parts.
+/// A part of the file's bytes or of a table: from one place up to another, which isn't in it.
+/// Its places take four bytes each, since many parts are kept.
 #[derive(Clone, Copy)]
 pub struct Part {
     /// Where it begins.
@@ -118,8 +118,8 @@ pub struct FunctionTable {
     pub functions: Vec<KeptFunction>,
     /// Their keys by start and size, once all are read.
     pub keys: Vec<FunctionKey>,
-    /// Where the line records begin in the file's bytes that are listed: those of each function by
-    /// start and size.
+    /// The table of places: where listed line records begin in the file's bytes, those of each
+    /// function by start and size.
     pub lines: Vec<usize>,
     /// The ranges of the INLINE records: those of each function by depth and start.
     pub inlinees: Vec<CallRange>,

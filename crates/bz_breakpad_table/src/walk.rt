@@ -98,8 +98,8 @@ impl Walk {
         Ok(Some(after))
     }
 
-    /// Reads the first line of the rest of a text quickly, if it is a STACK CFI record under another.
-    /// Returns the rest after it.
+    /// Reads the first line of the rest of a text quickly, if it is a STACK CFI record under a
+    /// STACK CFI INIT record. Returns the rest after it.
     #[inline(always)]
     fn cfi<'a>(&mut self, text: &[u8], rest: &'a [u8]) -> Option<&'a [u8]>
         requires midway { IsMidway text.now rest.now self.old }

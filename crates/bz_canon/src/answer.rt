@@ -26,7 +26,7 @@ pub fn answer_text(alloc: Global, addr: u64, answer: &Symbolized<'_>) -> Result<
     Ok(text)
 }
 
-/// Puts the text of the answer at an address to the end of a text.
+/// Adds the text of the answer at an address to the end of a text.
 pub fn push_answer(text: &mut String, addr: u64, answer: &Symbolized<'_>) -> Result<()>
     ensures ok { OnOk result (string_bytes text.new ≡ string_bytes text.old ++ answer_text addr (reading answer.now)) }
     ensures memory { IsOkUnless result Error.OutOfMemory }

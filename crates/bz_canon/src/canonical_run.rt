@@ -10,8 +10,8 @@ use std::simd::prelude::*;
 /// How many bytes one load shows.
 const SHOWN: usize = 32;
 
-/// Whether line records stand in a text as the canonical text has them. It may say no where they do: of
-/// a short text.
+/// Whether line records are spelled in a text as a canonical text spells them. It may say no where they
+/// are: of a short text.
 pub(crate) fn is_canonical_run(text: &[u8]) -> bool
     ensures { result ≡ true → IsCanonicalRun text.now }
 {
@@ -38,7 +38,7 @@ fn are_canonical(text: &[u8]) -> bool
         if !shows_canonical(&text[place..]) {
             return false;
         }
-        // The last two bytes are shown again, as those before others.
+        // The next load shows the last two bytes again, in front of those that follow.
         place += SHOWN - 2;
     }
     shows_canonical(&text[text.len() - SHOWN..])

@@ -7,8 +7,8 @@ ghost use Rattle.bz_canon.specs.Generated.{address_by, addresses_after, function
 use bz_base::{Error, Result};
 use std::alloc::Global;
 
-/// The Breakpad text of so many functions, the last one first. Each has 48 bytes, an inlined call at
-/// its front and two lines, and starts 64 bytes after the one before it.
+/// The Breakpad text of so many functions, the last one first. Function i starts at 4096 + 64 * i. It
+/// has 48 bytes, an inlined call at its front and two lines.
 pub fn gen_text(alloc: Global, functions: u64) -> Result<Vec<u8>>
     requires { functions ≤ 100000 }
     ensures ok { IfOk result (λ bytes. bytes.items ≡ generated_text functions) }

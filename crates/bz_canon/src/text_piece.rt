@@ -7,7 +7,7 @@ ghost use Rattle.std.specs.Str.{IsUtf8};
 use crate::piece::Piece;
 use std::alloc::AllocError;
 
-/// Puts a piece to the end of a text.
+/// Adds a piece to the end of a text.
 pub(crate) fn push_piece(text: &mut String, piece: &Piece) -> Result<(), AllocError>
     requires { IsUtf8 piece.now }
     ensures { OnOk result (string_bytes text.new ≡ string_bytes text.old ++ piece.now) }
@@ -27,7 +27,7 @@ pub(crate) fn put_str(piece: &mut Piece, text: &str)
     piece.put_bytes(text.as_bytes());
 }
 
-/// Puts a text and a number's hexadecimal digits behind it in front of a piece.
+/// Puts a text, followed by a number's hexadecimal digits, in front of a piece.
 #[inline(always)]
 pub(crate) fn put_hex_after(piece: &mut Piece, text: &str, number: u64)
     requires { length piece.old + (length text.now + 16) ≤ 96 }

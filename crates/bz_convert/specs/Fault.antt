@@ -86,7 +86,7 @@ has_zero text = list_any (λ b. b == zero_byte) text
 abbrev pub zero_in : Table → Function → Option ConvertError
 zero_in table f = if list_any has_zero (texts_of (code_of table f)) then Some (ZeroByte f.start) else None
 
--- the first fault of a function whose size isn't 0 and whose end fits 64 bits
+-- the first fault of a checked function's line records and inlined calls, and of their ids
 abbrev pub checked_fault : Table → Function → Option ConvertError
 checked_fault table f = line_gap f or (not_nested f or (overlap f or (no_line_file table f or (no_call_file table f or no_origin table f))))
 

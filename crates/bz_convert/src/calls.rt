@@ -115,7 +115,7 @@ fn lies_inside(function: &Function<'_>, reaches: &[Reach], call: &Inlinee) -> bo
     }
 }
 
-/// The first call that isn't nested.
+/// The fault of the first call that isn't nested.
 fn not_nested(function: &Function<'_>, reaches: &[Reach], calls: &[Inlinee]) -> Option<ConvertError>
     requires reaches { AreReaches (calls_in_order function.now) reaches.now }
     requires calls { map inlinee_seen calls.now ≡ calls_in_order function.now }
@@ -133,7 +133,7 @@ fn not_nested(function: &Function<'_>, reaches: &[Reach], calls: &[Inlinee]) -> 
     None
 }
 
-/// The first call that starts where another of its depth does, or inside one.
+/// The fault of the first call that starts where another of its depth does, or inside one.
 fn overlap(function: &Function<'_>, calls: &[Inlinee]) -> Option<ConvertError>
     requires { map inlinee_seen calls.now ≡ calls_in_order function.now }
     ensures { result ≡ overlap function.now }

@@ -49,7 +49,7 @@ pub(crate) fn ids_fault(
     origin_fault(ids, func, calls)
 }
 
-/// The first line record whose file isn't known.
+/// The fault of the first line record whose file isn't known.
 fn line_file_fault(ids: &CleanIds<'_>, func: u64, lines: &[SourceLine]) -> Option<ConvertError>
     ensures { (table : Table) → table_in ids.now ≡ Some table → result ≡ line_file_fault table func (map line_seen lines.now) }
 {
@@ -64,7 +64,7 @@ fn line_file_fault(ids: &CleanIds<'_>, func: u64, lines: &[SourceLine]) -> Optio
     None
 }
 
-/// The first inlined call of some size whose file isn't known.
+/// The fault of the first inlined call of some size whose file isn't known.
 fn call_file_fault(ids: &CleanIds<'_>, func: u64, calls: &[Inlinee]) -> Option<ConvertError>
     ensures { (table : Table) → table_in ids.now ≡ Some table → result ≡ call_file_fault table func (map inlinee_seen calls.now) }
 {
@@ -79,7 +79,7 @@ fn call_file_fault(ids: &CleanIds<'_>, func: u64, calls: &[Inlinee]) -> Option<C
     None
 }
 
-/// The first inlined call of some size whose name isn't known.
+/// The fault of the first inlined call of some size whose name isn't known.
 fn origin_fault(ids: &CleanIds<'_>, func: u64, calls: &[Inlinee]) -> Option<ConvertError>
     ensures { (table : Table) → table_in ids.now ≡ Some table → result ≡ origin_fault table func (map inlinee_seen calls.now) }
 {

@@ -133,8 +133,8 @@ fn end_within(line: &SourceLine, end: u64) -> u64
     line.addr.saturating_add(u64::from(line.size)).min(end)
 }
 
-/// A gap, or else the one from an address on up to the next line record. No gap begins at the start of
-/// the function.
+/// A gap, or else the one from an address on up to the next line record or the function's end. No gap
+/// begins at the function's start.
 fn gap_before(gap: Option<u64>, start: u64, reached: u64, next: u64) -> Option<u64>
     ensures { result ≡ (gap or gap_between start reached next) }
 {
@@ -194,17 +194,14 @@ fn push_row(
     let Some(line) = line else {
         return Ok(());
     };
-    if let Some(former) = before {
-        if former == line {
-            return Ok(());
-        }
+    if before != Some(line) {
+        rows.push(LineRow { addr, line })?;
     }
-    rows.push(LineRow { addr, line })?;
     Ok(())
 }
 
-/// The points of a function, in the order of their addresses. They are its start, and of each line
-/// record the start, the address after it, and the end. One may stand there several times.
+/// The points of a function, by address. They are its start, and of each line record the start, the
+/// second address and the end, as far as they lie in the function. One may stand there several times.
 fn points_of(
     alloc: Global,
     function: &Function<'_>,

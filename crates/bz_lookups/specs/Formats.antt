@@ -28,7 +28,7 @@ breakpad_single opts (Some table) addr = plain table opts addr
 abbrev pub breakpad_answering : Answering
 breakpad_answering = record { takes = is_in_file; serves = is_in_file; single = λ opts path bytes kind addr. breakpad_single opts (table_in bytes) addr }
 
--- a GSYM source takes addresses as the symbol table has them alone
+-- a GSYM source takes virtual offsets alone: addresses as its tables have them
 abbrev pub is_in_table : AddressKind → Bool
 is_in_table InTable = true
 is_in_table InProcess = false

@@ -33,7 +33,7 @@ impl Answers for SymbolFile {
     }
 
     fn hold<'d, A>(
-        alloc: Global,
+        _alloc: Global,
         version: Rc<SymbolFile>,
         path: &str,
         input: &Input<A>,
@@ -43,7 +43,6 @@ impl Answers for SymbolFile {
         ensures refusal { IfErr result MayRefuse }
     {
         // A Breakpad answer names no path.
-        let _alloc = alloc;
         let _path = path;
         match input {
             Input::FileOffset(_) => Ok(Held::Breakpad(version)),

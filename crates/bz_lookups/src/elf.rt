@@ -25,9 +25,8 @@ impl Answers for ElfFile {
 
     ghost few_steps = { no_steps };
 
-    fn takes<A>(input: &Input<A>) -> bool {
+    fn takes<A>(_input: &Input<A>) -> bool {
         // Addresses of a process are refused after the look.
-        let _input = input;
         true
     }
 

@@ -33,7 +33,7 @@ impl Answers for GsymTable {
     }
 
     fn hold<'d, A>(
-        alloc: Global,
+        _alloc: Global,
         version: Rc<GsymTable>,
         path: &str,
         input: &Input<A>,
@@ -43,7 +43,6 @@ impl Answers for GsymTable {
         ensures refusal { IfErr result MayRefuse }
     {
         // A GSYM answer names no path.
-        let _alloc = alloc;
         let _path = path;
         match input {
             Input::VirtOffset(_) => Ok(Held::Gsym(version)),

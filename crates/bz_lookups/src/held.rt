@@ -24,11 +24,11 @@ use std::sync::ledger::{Blank, Ledger};
 /// A version of a source, held as long as it answers.
 #[derive(Drop)]
 pub enum Held<'d> {
-    /// A Breakpad file.
+    /// A Breakpad file. Its addresses are relative to the module's base.
     Breakpad(Rc<SymbolFile>),
-    /// A GSYM file.
+    /// A GSYM file. Its addresses are those of its tables.
     Gsym(Rc<GsymTable>),
-    /// GSYM bytes that were handed in.
+    /// GSYM bytes that were handed in. Their addresses are those of their tables.
     GsymData(GsymContext<'d>),
     /// An ELF file.
     Elf(HeldElf),
@@ -190,8 +190,5 @@ impl<'d> Held<'d> {
 pub(crate) fn record_at(records: &[FoundRecord], index: usize) -> FoundRecord
     ensures { result ≡ slice_index_or records.now index FoundRecord.Absent }
 {
-    match records.get(index) {
-        Some(record) => *record,
-        None => FoundRecord::Absent,
-    }
+    records.get(index).copied().unwrap_or(FoundRecord::Absent)
 }

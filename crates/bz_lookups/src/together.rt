@@ -10,7 +10,7 @@ use crate::lookups::Lookups;
 use bz_base::{Addr, Reason, Result, Symbolized};
 use std::alloc::Global;
 
-/// How many answers are made together.
+/// How many answers are made together. `answers_of` is best asked for so many.
 pub const TOGETHER: usize = 32;
 
 /// How many answers are made at a time in the order of their addresses: so many that addresses near
@@ -93,7 +93,7 @@ impl<'d> Lookups<'d> {
         Ok(())
     }
 
-    // The same of some that are made together. Each is owned by itself, from the last one on.
+    // The same of some that are made together. From the last one on, each gets texts of its own.
     fn answer_some(
         &self,
         alloc: Global,

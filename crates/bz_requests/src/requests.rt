@@ -54,10 +54,10 @@ pub enum Request {
     Single(Target, u64),
     /// The ELF file at a path is to be kept.
     CacheElf(String),
-    /// The files of the process with an id are to be kept; 0 is the own one.
+    /// What answers for the process with an id is to be kept; 0 is the own one.
     CacheProcess(u32),
     /// The ELF file at a path is to be forgotten.
     EvictElf(String),
-    /// The files of the process with an id are to be forgotten; 0 is the own one.
+    /// What is kept of the process with an id is to be forgotten; 0 is the own one.
     EvictProcess(u32),
 }

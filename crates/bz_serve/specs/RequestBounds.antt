@@ -1,5 +1,5 @@
 -- How many files a request reads at most. A file isn't read where its present stamp is kept.
--- Of a process, mappings that are kept aren't read, nor is a status whose id is remembered.
+-- Of a process, kept mappings are read only where it is to be kept, a remembered id's status never.
 use Rattle.std.specs.Prelude.{ℕ, ◌+◌, Bool, true, false, cond, List, [], ◌∷◌, map, Option, Some, None, option_and_then, Result, Ok, Err}
 use Rattle.std.specs.List.{list_any}
 use Rattle.std.specs.Str.{bytes_eq}
@@ -46,7 +46,7 @@ told_paths asked addrs (Err e) = []
 abbrev pub process_reads : Asked → Option (List Mapping) → List ℕ → World → ProcessCaches → ℕ
 process_reads asked known addrs world kept = reads_once asked world (told_paths asked addrs (some_mappings asked.pid known world kept).answer) known kept
 
--- a batch of them: after a file was refused for its bytes, one more for each address that is refused
+-- a batch of them: one more for each address that is refused, or for each where the batch is
 abbrev pub batch_reads : Asked → Option (List Mapping) → List ℕ → World → ProcessCaches → ℕ
 batch_reads asked known addrs world kept =
     process_reads asked known addrs world kept + reads_again (λ answers. answers) addrs (asks_process asked known (map unsaid addrs) world kept).answer

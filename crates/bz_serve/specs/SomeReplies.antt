@@ -50,8 +50,8 @@ IsAskedCause opts file query e = IsSomeFileCause file e ⊎ IsSomeAnswer opts fi
 abbrev pub FileMaySay : {B : Type 0} → (B → List ℕ) → FindSymOpts → FileTarget → Query B → List ℕ → Type 0
 FileMaySay text_of opts file query text = SaysSome text_of (λ given. IsSomeAnswer opts file query (Ok given)) (λ e. IsAskedCause opts file query e) text
 
--- what a process is asked under: the id of the own one, the setting for paths that stand for mappings,
--- and the files that are kept before the request and after it
+-- what a process is asked under: the id of the own one, and the setting for paths that stand for
+-- mappings. And what is kept before the request and after it
 pub record Circumstances : Type 0 where
   pub own : ℕ
   pub map_files : Bool

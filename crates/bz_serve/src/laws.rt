@@ -16,11 +16,11 @@ ghost use Rattle.bz_symq.specs.Kept.{KeptState, new_kept, settings_of};
 ghost use Rattle.bz_symq.specs.Processes.{asked_by, nothing_kept, process_batch};
 
 /// A request reads no more files than what is kept leaves to read. A file may be read where its present
-/// stamp isn't kept. Of a process, mappings may be read where none are kept, and a status where its id
-/// isn't remembered. Each of its mapped files and perf maps may be read once, where its present stamp
-/// isn't kept. In a batch one more may be read for each address that is refused. A run of requests
-/// reads no more than the sum of these, each in its state and its world. A run of one batch reads no
-/// more than that batch, where nothing is kept.
+/// stamp isn't kept. Of a process, mappings may be read where none are kept, or to keep them, and a
+/// status where its id isn't remembered. Each of its mapped files and perf maps may be read once, where
+/// its present stamp isn't kept. In a batch one more may be read for each address that is refused, or
+/// for each where the batch is. A run of requests reads no more than the sum of these, each in its state
+/// and its world. A run of one batch reads no more than that batch, where nothing is kept.
 pub fn requests_read_few()
     ensures request { (map_files : Bool) (own : ℕ) (request : Request) (kept : KeptState) (world : World) → (step map_files own request kept world).reads ≤ request_reads map_files own request kept world }
     ensures run { (config : Config) (requests : List Request) (worlds : List World) (own : ℕ) → run_reads config requests worlds own ≤ requests_read config.map_files own (new_kept (settings_of config)) (turns requests worlds) }

@@ -126,7 +126,7 @@ IsAfterSomeLook file old now = (there : Option Entry) × (now ≡ file.with_cach
 pub record FileLeaves {A B : Type 0} (opts : FindSymOpts) (source : Source) (file : FileSource) (query : Query B) (result : Result A Error) (old now : State) : Type 0 where
   -- the old state, or the one after some look at the path
   pub one_look : (now ≡ old) ⊎ IsAfterSomeLook file old now
-  -- a refusal leaves the old one, where the source refuses no kind of address after the look
+  -- a refusal leaves the old one, where the kind of address isn't refused after the look
   pub on_refusal : file.answering.takes query.kind ≡ file.answering.serves query.kind → LeavesOld opts source file query result old now
   -- a failed read leaves the old one, whatever the kind of address
   pub on_fault : IsErrOf result errors.ReadFault → now ≡ old
@@ -172,7 +172,7 @@ pub record Symbolizes {A B X : Type 0} (files : Ghosts X) (reading : A → B) (s
   -- where kept versions cohere with the world in view, the version in view is answered
   pub view : OnFile source (λ file. Told (in_view (files.worlds before)) (λ world. Coherent (file.cache old).kept world →
       IfOk result (λ given. AnswersView (opts_of old.settings) source file old world query (reading given))))
-  -- wherever they don't, the version that a look gives is answered
+  -- whether or not they do, the version that a look gives is answered
   pub look : OnFile source (λ file. Told (in_view (files.worlds before)) (λ world.
       IfOk result (λ given. AnswersLook (opts_of old.settings) source file old world query (Ok (reading given)))))
   -- whether or not the files tell what they hold, the kept version is answered
@@ -180,8 +180,8 @@ pub record Symbolizes {A B X : Type 0} (files : Ghosts X) (reading : A → B) (s
   -- where kept versions cohere with the world in view, each refusal has its cause in the view
   pub causes : OnFile source (λ file. Told (in_view (files.worlds before)) (λ world. Coherent (file.cache old).kept world →
       GivesOrFaults reading (view_answer (asked_of file (opts_of old.settings) query) (file.cache old) world file.path) result))
-  -- wherever a version of the source's format is in view, the call is answered, unless something fails.
-  -- Or it is refused as the version that a look gives itself refuses what is asked
+  -- a served kind of address is answered wherever a version of the source's format is in view, unless
+  -- something fails. Or it is refused as the version that a look gives itself refuses what is asked
   pub complete : OnFile source (λ file. Told (in_view (files.worlds before)) (λ world.
       IsValid source file old world query.kind → IsServedOrFails (opts_of old.settings) source file old world query result))
   -- the answer, the state that is left and the file that is read are those of the definitions, but for
@@ -195,7 +195,7 @@ pub record Symbolizes {A B X : Type 0} (files : Ghosts X) (reading : A → B) (s
   pub handed : OnHanded source (λ given. Gives reading (handed_answer given (opts_of old.settings) query) result × (now ≡ old) × (after ≡ before))
   -- a kind of address that isn't taken is refused before any look
   pub untaken : OnFile source (λ file. file.answering.takes query.kind ≡ false → IsErrOf result errors.Unsupported × (now ≡ old) × (after ≡ before))
-  -- a path that is held and isn't looked at anew stays as it is, and is answered without a look
+  -- a path that is held and isn't looked at anew stays as it is, and answers each kind that is served
   pub stays : OnFile source (λ file. IsSome (fixed (file.cache old) file.path) → (now ≡ old) × (after ≡ before))
   pub ready : OnFile source (λ file. IsSome (fixed (file.cache old) file.path) → file.answering.takes query.kind ≡ true →
       file.answering.serves query.kind ≡ true → IsServedKept (opts_of old.settings) source file query result now)

@@ -88,12 +88,12 @@ impl<D: ProcessDispatch + Drop> Builder<D> {
     }
 
     /// Which dispatcher says what answers for what processes have mapped.
-    pub fn set_process_dispatcher<E: ProcessDispatch + Drop>(self, dispatch: E) -> Builder<E>
-        ensures { result ≡ record { settings = self.settings; dispatcher = dispatch } }
+    pub fn set_process_dispatcher<E: ProcessDispatch + Drop>(self, dispatcher: E) -> Builder<E>
+        ensures { result ≡ record { settings = self.settings; dispatcher = dispatcher } }
     {
         Builder {
             settings: self.settings,
-            dispatcher: dispatch,
+            dispatcher,
         }
     }
 

@@ -114,14 +114,8 @@ impl Cache {
         ensures memory { IsOkUnless result Error.OutOfMemory }
     {
         match self {
-            Cache::Elf(file) => {
-                let file = file.try_clone(alloc)?;
-                Ok(Cache::Elf(file))
-            }
-            Cache::Process(process) => {
-                let process = process.try_clone(alloc)?;
-                Ok(Cache::Process(process))
-            }
+            Cache::Elf(file) => Ok(Cache::Elf(file.try_clone(alloc)?)),
+            Cache::Process(process) => Ok(Cache::Process(process.try_clone(alloc)?)),
         }
     }
 }

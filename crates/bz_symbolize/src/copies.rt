@@ -76,14 +76,8 @@ impl<'d> Gsym<'d> {
         ensures memory { IsOkUnless result Error.OutOfMemory }
     {
         match self {
-            Gsym::Data(data) => {
-                let data = data.try_clone(alloc)?;
-                Ok(Gsym::Data(data))
-            }
-            Gsym::File(file) => {
-                let file = file.try_clone(alloc)?;
-                Ok(Gsym::File(file))
-            }
+            Gsym::Data(data) => Ok(Gsym::Data(data.try_clone(alloc)?)),
+            Gsym::File(file) => Ok(Gsym::File(file.try_clone(alloc)?)),
         }
     }
 }
@@ -95,22 +89,10 @@ impl<'d> Source<'d> {
         ensures memory { IsOkUnless result Error.OutOfMemory }
     {
         match self {
-            Source::Breakpad(file) => {
-                let file = file.try_clone(alloc)?;
-                Ok(Source::Breakpad(file))
-            }
-            Source::Gsym(source) => {
-                let source = source.try_clone(alloc)?;
-                Ok(Source::Gsym(source))
-            }
-            Source::Elf(file) => {
-                let file = file.try_clone(alloc)?;
-                Ok(Source::Elf(file))
-            }
-            Source::Process(process) => {
-                let process = process.try_clone(alloc)?;
-                Ok(Source::Process(process))
-            }
+            Source::Breakpad(file) => Ok(Source::Breakpad(file.try_clone(alloc)?)),
+            Source::Gsym(source) => Ok(Source::Gsym(source.try_clone(alloc)?)),
+            Source::Elf(file) => Ok(Source::Elf(file.try_clone(alloc)?)),
+            Source::Process(process) => Ok(Source::Process(process.try_clone(alloc)?)),
         }
     }
 }

@@ -87,14 +87,8 @@ impl Evict {
         ensures memory { IsOkUnless result Error.OutOfMemory }
     {
         match self {
-            Evict::Elf(file) => {
-                let file = file.try_clone(alloc)?;
-                Ok(Evict::Elf(file))
-            }
-            Evict::Process(process) => {
-                let process = process.try_clone(alloc)?;
-                Ok(Evict::Process(process))
-            }
+            Evict::Elf(file) => Ok(Evict::Elf(file.try_clone(alloc)?)),
+            Evict::Process(process) => Ok(Evict::Process(process.try_clone(alloc)?)),
         }
     }
 }

@@ -69,10 +69,10 @@ impl Symbolizer<NoDispatch> {
 
 impl<D: ProcessDispatch + Drop> Symbolizer<D> {
     // A symbolizer that keeps nothing yet, with these settings and this dispatcher.
-    pub(crate) fn with_settings(alloc: Global, settings: Settings, dispatch: D) -> Symbolizer<D>
-        ensures { result ≡ new_whole settings dispatch }
+    pub(crate) fn with_settings(alloc: Global, settings: Settings, dispatcher: D) -> Symbolizer<D>
+        ensures { result ≡ new_whole settings dispatcher }
     {
-        let processes = Processes::new(alloc, settings.reload, dispatch);
+        let processes = Processes::new(alloc, settings.reload, dispatcher);
         let files = KeptFiles::new(alloc, settings);
         Symbolizer { files, processes }
     }
@@ -184,7 +184,7 @@ impl<D: ProcessDispatch + Drop> Symbolizer<D> {
 
     /// Takes in the file of a resolver as the ELF file at the path, under the path's present stamp,
     /// without reading the file there. ELF sources at the path are then answered by the resolver's
-    /// file, as long as the path is at that stamp and this stamp stays kept. It is refused by
+    /// file, while the path is at that stamp and this stamp stays kept. It is refused by
     /// `AlreadyExists` where a version with the present stamp is kept, or where the path is held
     /// and isn't looked at anew. It is refused by `NotFound`, `PermissionDenied` and `ReadFault` as
     /// a look at the path is, and by `OutOfMemory`. After a refusal the symbolizer is as before.

@@ -24,7 +24,7 @@ code_of statuses.Input = 3
 code_of statuses.Fault = 4
 code_of statuses.Memory = 5
 
--- the line that goes to standard error, without its end: where reading or writing
+-- what a status says by itself, without a line's end: where reading or writing
 -- failed, or memory ran out
 abbrev pub message_of : Status → Option (List ℕ)
 message_of statuses.Fault = Some (codes "symq: reading or writing failed")

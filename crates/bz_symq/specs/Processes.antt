@@ -60,7 +60,7 @@ pub record IsSomeProcessBatch (config : Config) (number own : ℕ) (addrs : List
   pub kept_after : ProcessCaches
   pub answers_are : SomeAtAddresses (asked_by config number own) (tells.0 ∷ tells.1) (map unsaid addrs) answers (nothing_kept config) kept_after
 
--- why a text gives no answers: it tells no mappings, or it tells that there are none
+-- why a text gives no answers: it is malformed, or it tells that there are none
 abbrev pub IsMapsCause : ℕ → List ℕ → Error → Type 0
 IsMapsCause number text e =
     ((e ≡ errors.InvalidData) × ((mappings : List Mapping) → AreMappings (pid_of number) text mappings → ⊥))

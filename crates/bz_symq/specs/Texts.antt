@@ -23,7 +23,7 @@ abbrev pub AreTexts : Batch → Texts → Type 0
 AreTexts batch texts = (place : ℕ) (part : TextPart) → slice_index_or texts.parts.items place None ≡ Some part →
     IsTextIn batch (texts.first + place) (string_bytes texts.text) part
 
--- a text more was made, of an answer among the same ones
+-- more texts were made, of answers among the same ones
 pub record MakesMore (batch : Batch) (old new : Texts) : Type 0 where
   pub texts : AreTexts batch old → AreTexts batch new
   pub first : new.first ≡ old.first

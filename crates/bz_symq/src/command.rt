@@ -29,7 +29,7 @@ pub enum Target<'a> {
 pub struct Batch<'a> {
     /// What answers the addresses.
     pub target: Target<'a>,
-    /// What the addresses are relative to: a target refuses those of another kind than its own.
+    /// What the addresses are relative to: a target refuses kinds that it doesn't take.
     pub kind: Input<()>,
     /// The settings of the symbolizer, and how a process is asked.
     pub config: Config,

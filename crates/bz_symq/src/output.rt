@@ -49,8 +49,8 @@ pub fn write_said<W: TextOut>(
     }
 }
 
-// Writes the texts of the answers at the addresses, one after the other. However many there are, a
-// few answers and some of their texts are in memory.
+// Writes the texts of the answers at the addresses, one after the other. However many there are,
+// only a few answers and some of their texts are in memory.
 fn write_answers<W: TextOut>(
     alloc: Global,
     output: &mut W,
@@ -71,8 +71,8 @@ fn write_answers<W: TextOut>(
     write_piece(output, &mut piece)
 }
 
-// Writes the texts of answers that were all given, one after the other. However many there are, some
-// of their texts are in memory.
+// Writes the texts of answers that were all given, one after the other. However many there are, only
+// some of their texts are in memory.
 fn write_owned<W: TextOut>(
     alloc: Global,
     output: &mut W,
@@ -93,7 +93,7 @@ fn write_owned<W: TextOut>(
     write_piece(output, &mut piece)
 }
 
-// Puts the text of the answer at the address of the next index to the end of a text. Past the texts
+// Adds the text of the answer at the address of the next index to the end of a text. Past the texts
 // that were made ahead, it is made together with some that follow.
 fn push_next(
     alloc: Global,
@@ -115,7 +115,7 @@ fn push_next(
     push_text(alloc, text, texts, lookups, index)
 }
 
-// Puts the text of the answer at the address of an index to the end of a text. Where it wasn't made
+// Adds the text of the answer at the address of an index to the end of a text. Where it wasn't made
 // ahead, it is made now.
 fn push_text(
     alloc: Global,

@@ -30,7 +30,7 @@ pub enum Said {
     Answers(Lookups<'static>),
     /// The texts of answers that were all given, which are made as they are written.
     Owned(OwnedAnswers),
-    /// What was made of a file.
+    /// Bytes that were made, which are written as they are.
     Made(Vec<u8>),
 }
 
@@ -63,7 +63,7 @@ pub fn text_reply(status: Status, text: String) -> Reply
     }
 }
 
-/// The reply that says what was made of a file.
+/// The reply that says bytes that were made.
 pub fn made_reply(bytes: Vec<u8>) -> Reply
     ensures { outcome_of result ≡ done_with bytes.items }
 {

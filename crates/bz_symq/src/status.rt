@@ -6,7 +6,7 @@ ghost use Rattle.bz_symq.specs.Outcome.{code_of, message_of};
 /// How a run ended.
 #[derive(Clone, Copy, Debug, PartialEq, Eq)]
 pub enum Status {
-    /// 0: the answers, or the product, were written.
+    /// 0: what was asked for was written.
     Done,
     /// 1: the source can't be asked, or the product can't be made; the refusal was written.
     Refused,
@@ -35,7 +35,7 @@ impl Status {
         }
     }
 
-    /// The line that goes to standard error, without its end; none where standard output says why.
+    /// What the status says by itself, without a line's end; none where standard output says why.
     pub fn message(&self) -> Option<&'static str>
         ensures { option_map (λ text. text.now) result ≡ message_of self.now }
     {

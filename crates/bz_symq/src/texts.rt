@@ -1,5 +1,5 @@
 //! The texts of answers that are made together. They are made in the order of their addresses where
-//! that is faster: what stands near each other in a file is read together then.
+//! that is faster: what stands close together in a file is read together then.
 
 ghost use Rattle.std.specs.Prelude.{◌≡◌, ◌<◌, ◌++◌, length, slice_get, slice_index, string_bytes, All, Some, OnOk, IfSome, IsOkUnless};
 ghost use Rattle.bz_base.specs.Answer.{Answer, reading};
@@ -40,7 +40,7 @@ pub(crate) struct Texts {
     text: String,
     /// Where the text of each answer stands, if it was made.
     parts: Vec<Option<TextPart>>,
-    /// Whether the next answer is made alone: the last texts were long, or there are none.
+    /// Whether the next answer is made alone: the last texts were long, or none was made.
     alone: bool,
 }
 
@@ -150,7 +150,7 @@ impl Texts {
     }
 }
 
-/// Puts the text of the answer at the address of an index to the end of a text.
+/// Adds the text of the answer at the address of an index to the end of a text.
 pub(crate) fn push_entry(
     alloc: Global,
     text: &mut String,

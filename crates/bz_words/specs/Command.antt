@@ -101,7 +101,7 @@ abbrev pub generate_in : Option Text → List Text → Option Job
 generate_in None (seed ∷ functions ∷ addresses ∷ []) = numbers_in seed functions addresses
 generate_in _ _ = None
 
--- `convert PATH`, `canon PATH`, `stacks PATH` and `frames PATH`
+-- `convert PATH`, `canon PATH`, `stacks PATH` and `frames ROOT`
 abbrev pub path_job : Text → Text → Option Job
 path_job kind path =
     if bytes_eq kind (codes "convert") then Some (Make (Converted path))

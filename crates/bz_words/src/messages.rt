@@ -74,7 +74,7 @@ pub fn message<F: Files>(
     ensures refused { status ≡ Status.Refused → Told (in_view (F.worlds files.old)) (λ world. IfSome result (λ line. SaysWhere (map string_bytes words.now) world (cow_str_bytes line))) }
     ensures about { status ≡ Status.Fault → IfSome result (λ line. IsAboutFailed (map string_bytes words.now) failed (cow_str_bytes line)) }
     ensures memory { status ≡ Status.Memory → option_map cow_str_bytes result ≡ message_of status }
-    ensures told { HasMessage status → is_some result ≡ true }
+    ensures sure { HasMessage status → is_some result ≡ true }
     ensures files { ReadsForMessage F.Files status files.old files.new }
 {
     match status {

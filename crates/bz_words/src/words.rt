@@ -273,13 +273,10 @@ fn kind_for(target: &Target, input: Option<&str>) -> Option<Input<()>>
 fn kind_named(text: &str) -> Option<Input<()>>
     ensures { option_map address_kind result ≡ kind_named text.now }
 {
-    if text == "abs" {
-        Some(Input::AbsAddr(()))
-    } else if text == "virt" {
-        Some(Input::VirtOffset(()))
-    } else if text == "file" {
-        Some(Input::FileOffset(()))
-    } else {
-        None
+    match text {
+        "abs" => Some(Input::AbsAddr(())),
+        "virt" => Some(Input::VirtOffset(())),
+        "file" => Some(Input::FileOffset(())),
+        _ => None,
     }
 }

@@ -93,10 +93,7 @@ fn without_repeats(alloc: Global, placed: &[PlacedCall]) -> Result<Vec<Inlinee>,
 fn is_repeated(before: Option<Inlinee>, call: &Inlinee) -> bool
     ensures { result ≡ is_repeated (option_map inlinee_seen before) (inlinee_seen call.now) }
 {
-    match before {
-        Some(before) => before == *call,
-        None => false,
-    }
+    before == Some(*call)
 }
 
 /// The node of an inlined call.

@@ -32,7 +32,7 @@ pub fn frame_text(alloc: Global, frame: &CrashFrame, answer: &FrameAnswer) -> Re
     Ok(text)
 }
 
-// Puts the text of the answer to a frame to the end of a text.
+// Adds the text of the answer to a frame to the end of a text.
 fn push_frame(text: &mut String, frame: &CrashFrame, answer: &FrameAnswer) -> Result<()>
     ensures ok { OnOk result (string_bytes text.new ≡ string_bytes text.old ++ frame_text (frame_of frame.now) (reading_of answer.now)) }
     ensures memory { IsOkUnless result Error.OutOfMemory }

@@ -18,7 +18,7 @@ impl<D: ProcessDispatch + Drop> Symbolizer<D> {
     /// process has mapped aren't kept by that.
     ///
     /// An ELF file is looked at as if its path weren't pinned, and the path is pinned at the version
-    /// that this look gives. A symbolizer that doesn't look at files anew pins a held path as it is. It
+    /// that this look gives. Where files aren't looked at anew, a held path is pinned as it is. The call
     /// is refused as the look is: by `NotFound`, `PermissionDenied`, `Unsupported` or `InvalidData`.
     ///
     /// Of a process, where they are asked for, the mappings are read and kept. Then its id is
@@ -46,7 +46,7 @@ impl<D: ProcessDispatch + Drop> Symbolizer<D> {
     /// Forgets an ELF file: its path, pinned or not, with the versions that no other path names. What a
     /// dispatcher said of mapped files with this path, their own or the one that stands for the
     /// mapping, is forgotten too. Or forgets a process: its mappings, its id and its perf map. What a
-    /// dispatcher said stays then, as what it said of parts of the system always does. It is always
+    /// dispatcher said stays then, as what it said of parts of the system always does. The call is always
     /// answered, and takes no memory.
     pub fn evict(&mut self, evict: &Evict) -> Result<()>
         ensures { Evicts (evict_read evict.now) result self.old self.new }

@@ -8,16 +8,18 @@ use Rattle.bz_breakpad_table.proofs.names.name_of.Goals as goal
 
 pub text_of-requires : goal.text_of-requires
 text_of-requires c =
-    value_found (IsTextAt c.args.bytes.now) (is_at (nat_cmp c.args.id)) c.args.names.now c.in-Some.part.now c.requires c.in-Some.ensures
+    value_found (IsTextAt c.args.bytes.now) (is_at (nat_cmp c.args.id)) c.args.names.now c.in_ok-part.part.now c.requires c.in_ok-part.ensures
 
-pub returns-in-Some : goal.returns-in-Some
-returns-in-Some c =
+pub returns : goal.returns
+returns c =
     let text = text_at c.args.bytes.now in
     ap Some c.text_of.ensures
-    ∙ ap (option_map text) c.in-Some.ensures
+    ∙ ap (option_map text) c.in_ok-part.ensures
     ∙ sym (lookup-map_values text (is_at (nat_cmp c.args.id)) c.args.names.now)
 
-pub returns-in-None : goal.returns-in-None
-returns-in-None c =
+pub returns-in_err-part : goal.returns-in_err-part
+returns-in_err-part c =
     let text = text_at c.args.bytes.now in
-    ap (option_map text) c.in-None.ensures ∙ sym (lookup-map_values text (is_at (nat_cmp c.args.id)) c.args.names.now)
+    ap (option_map (λ name. name.now)) c.from_residual.ensures
+    ∙ ap (option_map text) c.in_err-part.ensures
+    ∙ sym (lookup-map_values text (is_at (nat_cmp c.args.id)) c.args.names.now)
