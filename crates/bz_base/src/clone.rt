@@ -1,4 +1,4 @@
-//! Answers and their parts once more.
+//! Clones of answers and of their parts.
 
 ghost use Rattle.std.specs.Prelude.{◌≡◌, IfOk, IfSome, IsOkUnless, map, option_map};
 ghost use Rattle.std.specs.Cow.{cow_str_bytes};
@@ -12,7 +12,7 @@ use std::alloc::Global;
 use std::borrow::CowStr;
 
 impl<'a> CodeInfo<'a> {
-    /// The same site again: a borrowed text stays borrowed, and another is copied.
+    /// The same site again: a borrowed text stays borrowed, and an owned one is copied.
     pub fn try_clone(&self, alloc: Global) -> Result<CodeInfo<'a>>
         ensures same { IfOk result (λ site. site_of site ≡ site_of self.now) }
         ensures lent { IsLentSite self.now → IfOk result IsLentSite }
@@ -30,7 +30,7 @@ impl<'a> CodeInfo<'a> {
 }
 
 impl<'a> InlinedFn<'a> {
-    /// The same call again: a borrowed text stays borrowed, and another is copied.
+    /// The same call again: a borrowed text stays borrowed, and an owned one is copied.
     pub fn try_clone(&self, alloc: Global) -> Result<InlinedFn<'a>>
         ensures same { IfOk result (λ call. call_of call ≡ call_of self.now) }
         ensures lent { IsLentCall self.now → IfOk result IsLentCall }
@@ -43,7 +43,7 @@ impl<'a> InlinedFn<'a> {
 }
 
 impl<'a> Sym<'a> {
-    /// The same symbol again: a borrowed text stays borrowed, and another is copied.
+    /// The same symbol again: a borrowed text stays borrowed, and an owned one is copied.
     pub fn try_clone(&self, alloc: Global) -> Result<Sym<'a>>
         ensures same { IfOk result (λ symbol. symbol_of symbol ≡ symbol_of self.now) }
         ensures lent { IsLentSymbol self.now → IfOk result IsLentSymbol }
@@ -67,7 +67,7 @@ impl<'a> Sym<'a> {
 }
 
 impl<'a> Symbolized<'a> {
-    /// The same answer again: a borrowed text stays borrowed, and another is copied.
+    /// The same answer again: a borrowed text stays borrowed, and an owned one is copied.
     pub fn try_clone(&self, alloc: Global) -> Result<Symbolized<'a>>
         ensures same { IfOk result (λ answer. reading answer ≡ reading self.now) }
         ensures lent { IsLent self.now → IfOk result IsLent }

@@ -13,15 +13,15 @@ pub type Result<T> = std::result::Result<T, Error>;
 /// The kinds of refusal.
 #[derive(Clone, Copy, Debug, PartialEq, Eq)]
 pub enum ErrorKind {
-    /// The source doesn't take this kind of input or search; or an ELF file has another class or byte
-    /// order.
+    /// The source doesn't take this kind of input or search; or an ELF file isn't of 64 bits and
+    /// little-endian.
     Unsupported,
     /// A file that is needed is absent.
     NotFound,
     /// A file that is needed may not be read.
     PermissionDenied,
-    /// A Breakpad file outside its format; or, of one address there, an id that names nothing, or a
-    /// source's name without a last component.
+    /// A Breakpad file outside its format; or, of one address there, an id that names nothing, or
+    /// an empty source name.
     InvalidInput,
     /// GSYM, ELF, mappings, a perf map or a status outside their formats.
     InvalidData,
@@ -38,15 +38,15 @@ pub enum ErrorKind {
 /// A refusal.
 #[derive(Clone, Copy, Debug, PartialEq, Eq)]
 pub enum Error {
-    /// The source doesn't take this kind of input or search; or an ELF file has another class or byte
-    /// order.
+    /// The source doesn't take this kind of input or search; or an ELF file isn't of 64 bits and
+    /// little-endian.
     Unsupported,
     /// A file that is needed is absent.
     NotFound,
     /// A file that is needed may not be read.
     PermissionDenied,
-    /// A Breakpad file outside its format; or, of one address there, an id that names nothing, or a
-    /// source's name without a last component.
+    /// A Breakpad file outside its format; or, of one address there, an id that names nothing, or
+    /// an empty source name.
     InvalidInput,
     /// GSYM, ELF, mappings, a perf map or a status outside their formats.
     InvalidData,

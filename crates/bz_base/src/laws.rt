@@ -35,8 +35,8 @@ pub fn variants_are_equal_alone()
 {}
 
 /// Processes are equal exactly where they are the same, which is where they are made from the same
-/// number. The own process comes before all others, which go by their ids, and the order ties exactly
-/// there.
+/// number. The own process comes before all others, which go by their ids, and the order ties
+/// exactly where they are equal.
 pub fn pid_order_agrees()
     ensures equal { (a b : Pid) → IsTrue (⟦<Pid as PartialEq>⟧.eq a b) ↔ (a ≡ b) }
     ensures numbers { (a b : Pid) → (number_of a ≡ number_of b) ↔ (a ≡ b) }
@@ -68,7 +68,7 @@ pub fn pid_hash_agrees()
     ensures apart { (a b : Pid) → number_of a < 2 ^ 32 → number_of b < 2 ^ 32 → ⟦<Pid as Hash>⟧.hash_input a ≡ ⟦<Pid as Hash>⟧.hash_input b → a ≡ b }
 {}
 
-/// A clone of a kind, a reason or a refusal is the same variant.
+/// A clone of a kind, a language, a reason, a refusal or a process is equal to it.
 pub fn clones_are_equal()
     ensures reasons { (a b : Reason) → ⟦<Reason as Clone>⟧.is_clone a b ↔ (a ≡ b) }
     ensures errors { (a b : Error) → ⟦<Error as Clone>⟧.is_clone a b ↔ (a ≡ b) }
@@ -78,7 +78,7 @@ pub fn clones_are_equal()
     ensures processes { (a b : Pid) → ⟦<Pid as Clone>⟧.is_clone a b ↔ (a ≡ b) }
 {}
 
-/// Cloning a kind, a reason or a refusal takes no memory.
+/// Cloning a kind, a language, a reason, a refusal or a process takes no memory.
 pub fn clones_never_fail()
     ensures reasons { (a : Reason) → ⟦<Reason as Clone>⟧.is_infallible a }
     ensures errors { (a : Error) → ⟦<Error as Clone>⟧.is_infallible a }
@@ -104,8 +104,8 @@ pub fn answers_are_equal_by_reading()
     ensures answers { (a b : Symbolized) → IsTrue (⟦<Symbolized<'static> as PartialEq>⟧.eq a b) ↔ (reading a ≡ reading b) }
 {}
 
-/// What is seen from outside calls of any kind has their sites and names, each moved by one. The code
-/// lies at the outermost call, each call at the next one, and the innermost at the line.
+/// What is seen from outside calls of any kind has their names, and their sites moved by one. The
+/// code lies at the outermost call, each call at the next one, and the innermost at the line.
 pub fn calls_are_rotated<C>()
     ensures { (site : C → Option Site) (name : C → Option (List ℕ)) (line : Option Site) (calls : List C) (seen : Site × List Call) →
         (seen_from site name line calls ≡ Some seen) ↔ IsSeen site name line calls seen }

@@ -94,7 +94,7 @@ pub struct ResolvedSym<'a> {
     pub module: Option<&'a str>,
     /// The symbol's start, as the source has it: in a Breakpad file relative to the module's base.
     pub addr: Addr,
-    /// The symbol's size, in bytes.
+    /// The symbol's size, in bytes; none where the source doesn't tell it.
     pub size: Option<usize>,
     /// The language that the name is from.
     pub lang: SrcLang,
@@ -116,7 +116,7 @@ pub struct Sym<'a> {
     pub addr: Addr,
     /// How many bytes the address lies past the start.
     pub offset: usize,
-    /// The symbol's size, in bytes.
+    /// The symbol's size, in bytes; none where the source doesn't tell it.
     pub size: Option<usize>,
     /// The site in the symbol's own function: that of the address, or, with inlined calls, that of the
     /// outermost call.
@@ -140,7 +140,7 @@ pub enum Reason {
     MissingSyms,
     /// The mapping is of a kind that isn't looked into.
     Unsupported,
-    /// No symbol of the source covers the address.
+    /// No symbol of the source answers for the address.
     UnknownAddr,
     /// Looking the address up failed, and the batch went on.
     IgnoredError,

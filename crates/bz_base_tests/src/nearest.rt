@@ -140,8 +140,8 @@ fn id_by_starts<L: Ledger>(table: &[Entry], starts: &Starts, addr: u64, steps: &
     id_of(covering_at(table, place, addr))
 }
 
-/// Whether a search among the starts finds the record that answers, in a table that is sorted, and
-/// one finds it at its place.
+/// Whether searches among the starts of a sorted table find the records that answer, and the place of
+/// the one for 17.
 fn search_answers<L: Ledger>(table: &[Entry], starts: &Starts, steps: &mut Steps<L>) -> bool
     requires { starts.now ≡ map (λ e. e.start) table.now }
 {

@@ -3,12 +3,13 @@
 use crate::files::file_of;
 use bz_breakpad::SymbolFile;
 use bz_convert::{ConvertError, convert};
+use bz_samples::BREAKPAD_CALLS;
 use std::alloc::Global;
 
 /// A file's text, and what is said of its first fault: nothing where it has none. Each cause once;
 /// sizes of 0, equal calls, and functions whose end passes 64 bits. Then files with several causes: in
 /// one function the first by the kinds' order, in several the one of the least start.
-static CAUSES: [(&[u8], &str); 22] = [
+static CAUSES: [(&[u8], &str); 21] = [
     (b"INFO x\n", ""),
     (b"FUNC 10 0 0 f\n", "the function at 0x10 has size 0"),
     (
@@ -41,12 +42,8 @@ static CAUSES: [(&[u8], &str); 22] = [
         "",
     ),
     (
-        b"FILE 15 o.c\nFILE 4 m.c\nFILE 8 i2.c\nFUNC 1000 30 10 outer_func()\nINLINE_ORIGIN 1 inner_func_2()\nINLINE_ORIGIN 2 mid_func()\nINLINE_ORIGIN 3 inner_func_1()\nINLINE 0 60 15 2 1000 20\nINLINE 1 12 4 3 1000 10\nINLINE 1 17 4 1 1010 10\n1000 10 42 7\n1010 10 52 8\n1020 10 62 15\n",
+        BREAKPAD_CALLS,
         "the function at 0x1000 asks for a file of id 7, which isn't known",
-    ),
-    (
-        b"FILE 7 p.c\nFILE 15 o.c\nFILE 4 m.c\nFILE 8 i2.c\nFUNC 1000 30 10 outer_func()\nINLINE_ORIGIN 1 inner_func_2()\nINLINE_ORIGIN 2 mid_func()\nINLINE_ORIGIN 3 inner_func_1()\nINLINE 0 60 15 2 1000 20\nINLINE 1 12 4 3 1000 10\nINLINE 1 17 4 1 1010 10\n1000 10 42 7\n1010 10 52 8\n1020 10 62 15\n",
-        "",
     ),
     (
         b"FILE 0 a.c\nINLINE_ORIGIN 0 g\nFUNC 10 8 0 f\nINLINE 0 1 5 0 10 4\n10 8 1 0\n",

@@ -4,11 +4,10 @@ ghost use Rattle.std.specs.Prelude.{option_map, string_bytes, IfOk};
 ghost use Rattle.bz_breakpad_tests.specs.Calling.{HasName, IsNamed};
 ghost use Rattle.bz_files.specs.World.{in_view};
 
-use crate::files::put;
 use bz_base::{Addr, FindSymOpts, Result, Symbolize};
 use bz_breakpad::BreakpadResolver;
 use bz_files::{Files, MemFiles};
-use bz_samples::BREAKPAD_PROGRAM;
+use bz_samples::{BREAKPAD_PROGRAM, put};
 use std::alloc::Global;
 
 /// The name of the symbol at an address of the Breakpad file at a path, as its plain answer has it.

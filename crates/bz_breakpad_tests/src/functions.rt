@@ -5,11 +5,10 @@ use crate::fact::Row;
 use crate::fact::Told::{
     CallAtDepth, Calls, CallsAround, LineRecord, Lines, Nothing, OneByOne, Parts,
 };
-use crate::files::NESTED;
 use bz_breakpad::{Inlinee, SourceLine};
-use bz_samples::BREAKPAD_KINDS;
+use bz_samples::{BREAKPAD_CALLS, BREAKPAD_KINDS};
 
-/// The line of NESTED at 0x1010.
+/// The line of BREAKPAD_CALLS at 0x1010.
 const LINE: SourceLine = SourceLine {
     addr: 0x1010,
     size: 0x10,
@@ -49,7 +48,7 @@ pub(crate) const FOUND: &[Row] = &[
         ],
     ),
     (
-        NESTED,
+        BREAKPAD_CALLS,
         &[
             Function(0x1010, LineRecord(0x1010, Some(LINE))),
             Function(0x1010, LineRecord(0x1030, None)),

@@ -1,4 +1,4 @@
-//! What is told of functions by their names and in their order.
+//! Functions of one name, and walks that end at a name.
 
 use crate::fact::Fact::Walk;
 use crate::fact::Row;

@@ -2,12 +2,12 @@
 
 use crate::answered::is_call;
 use crate::fact::Call;
-use crate::files::put;
 use crate::named::are_listed;
 use crate::walked::is_walk;
 use bz_base::{Error, FindSymOpts, Reason, ResolvedSym, SrcLang, SymType, Symbolize};
 use bz_breakpad::{BreakpadResolver, FindAddrOpts, Inspect, SymInfo};
 use bz_files::MemFiles;
+use bz_samples::put;
 use std::alloc::Global;
 
 /// What a resolver shows.

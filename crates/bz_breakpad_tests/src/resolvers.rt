@@ -1,6 +1,6 @@
 //! Resolvers: what opening one answers, and the symbols that one finds.
 
-use crate::files::{OVERLAPPING, put};
+use crate::files::OVERLAPPING;
 use crate::inspected::{LATE_TWIN, LONG_TWIN, SHORT_TWIN, TWINS};
 use crate::resolved::Found::{Refused, Symbol, Unknown};
 use crate::resolved::Resolved::{At, Named, NoVariables, Printed};
@@ -8,7 +8,7 @@ use crate::resolved::{Row, is_resolved};
 use bz_base::{Error, ErrorKind, FindSymOpts, Reason, Result, SymType};
 use bz_breakpad::{BreakpadResolver, SymInfo};
 use bz_files::MemFiles;
-use bz_samples::BREAKPAD_KINDS;
+use bz_samples::{BREAKPAD_KINDS, put};
 use std::alloc::Global;
 
 /// A function whose line record has a file that no FILE record names.
@@ -135,8 +135,8 @@ fn fill(alloc: Global, files: &mut MemFiles) -> Result<()> {
     files.fail_call(alloc, 4)
 }
 
-/// The first path that isn't refused by its cause, or that files weren't put; nothing where all are
-/// refused so.
+/// The first thing that fails: a path that isn't refused by its cause, or the putting of files;
+/// nothing where none does.
 fn first_to_fail(alloc: Global, files: &mut MemFiles) -> &'static str {
     let Ok(()) = fill(alloc, files) else {
         return "files are put";

@@ -3,10 +3,9 @@
 use crate::fact::Answer::{Located, Symbol, Unknown};
 use crate::fact::Fact::Answer;
 use crate::fact::Row;
-use crate::files::NESTED;
 use bz_base::FindSymOpts::{Basic, CodeInfo, CodeInfoAndInlined};
 use bz_base::Reason;
-use bz_samples::{BREAKPAD_KINDS, BREAKPAD_PROGRAM};
+use bz_samples::{BREAKPAD_CALLS, BREAKPAD_KINDS, BREAKPAD_PROGRAM};
 
 const UNKNOWN_FILE: &[u8] = b"FUNC 1000 10 0 f\n1000 10 5 9\n";
 
@@ -36,7 +35,7 @@ pub(crate) const CALLS: &[Row] = &[
         ],
     ),
     (
-        NESTED,
+        BREAKPAD_CALLS,
         &[
             Answer(
                 0x1010,

@@ -2,8 +2,7 @@
 
 use crate::fact::Fact::{Counts, Records};
 use crate::fact::Row;
-use crate::files::NESTED;
-use bz_samples::{BREAKPAD_KINDS, BREAKPAD_PROGRAM};
+use bz_samples::{BREAKPAD_CALLS, BREAKPAD_KINDS, BREAKPAD_PROGRAM};
 
 /// Files of every kind of record but STACK WIN, with other line ends, with blank lines, and with equal
 /// records.
@@ -17,7 +16,7 @@ pub(crate) const COUNTED: &[Row] = &[
         b"MODULE Linux x86 ffff0000 bar\r\r\nFILE 53 bar.c\r\r\nPUBLIC 1234 10 some public\r\r\nFUNC 1000 30 10 another func\r\r\n1000 30 7 53\r\r\n",
         &[Records(5), Counts(1, 1, 1)],
     ),
-    (NESTED, &[Records(13), Counts(1, 3, 0)]),
+    (BREAKPAD_CALLS, &[Records(13), Counts(1, 3, 0)]),
     (
         b"FUNC 1000 10 0 f\n\n1000 10 5 1\nFILE 1 a.c\n\n",
         &[Records(3), Counts(1, 1, 0)],

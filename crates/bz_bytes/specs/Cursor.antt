@@ -58,7 +58,7 @@ skip_at count bytes = option_map (λ cut. (tt, cut.1)) (slice_at count bytes)
 
 -- What the pieces are, by their bytes.
 
--- the bytes begin with a text with this, and the rest is what follows it
+-- the bytes begin with a text of which this holds, and the rest is what follows it
 pub record IsInFront (P : List ℕ → Type 0) (bytes rest : List ℕ) : Type 0 where
   pub text : List ℕ
   pub whole : bytes ≡ text ++ rest

@@ -51,7 +51,7 @@ abbrev pub leb_at : List ℕ → Option (List ℕ × List ℕ)
 leb_at [] = None
 leb_at (byte ∷ bytes) = if nat_lt byte 128 then Some (byte ∷ [], bytes) else option_map (with_first byte) (leb_at bytes)
 
--- the unsigned number of so many bytes with these bits, if it has 64 bits
+-- the unsigned number of so many bytes with these bits, if they are at most 10 bytes and 64 bits
 abbrev pub unsigned : ℕ → ℕ → Option ℕ
 unsigned count bits = if nat_le count 10 && nat_lt bits (2 ^ 64) then Some bits else None
 

@@ -3,7 +3,7 @@ use Rattle.std.specs.Prelude.{◌≡◌, ◌⊎◌, ◌≢◌, ℕ, ◌-◌, ◌
 use Rattle.std.specs.List.{AllByRecursion, slice_split, join_with_byte}
 use Rattle.bz_bytes.specs.Byte.{HasNo, begins_with}
 
--- the byte between the parts of a path
+-- the byte between the pieces of a path
 abbrev pub slash : ℕ
 slash = 47
 
@@ -24,7 +24,7 @@ abbrev pub path_text : Option (List ℕ) → List ℕ → List ℕ
 path_text None file = file
 path_text (Some dir) file = if begins_with_slash file then file else dir ++ (slash_after (last_byte dir) ++ file)
 
--- the part of a path that stays where it is
+-- the byte of the piece that stays where it is
 abbrev pub dot : ℕ
 dot = 46
 
@@ -44,7 +44,7 @@ is_dead first [] = true
 is_dead first (b ∷ []) = b == dot && not first
 is_dead first (b ∷ c ∷ piece) = false
 
--- all of the pieces are dead, of which the first is that of the text or isn't
+-- all of the pieces are dead; the flag says whether the first of them is the text's first piece
 abbrev pub AreDead : Bool → List (List ℕ) → Type 0
 AreDead first [] = Unit {0}
 AreDead first (piece ∷ pieces) = (is_dead first piece ≡ true) × AreDead false pieces

@@ -4,8 +4,8 @@ ghost use Rattle.std.specs.Prelude.{◌≡◌, ◌<◌, ◌≤◌, ◌^◌, leng
 ghost use Rattle.std.specs.Char.{digit_value};
 ghost use Rattle.bz_bytes.specs.Number.{alone, decimal_at, digits_at, hex_at, whole};
 
-/// The number of the one to `most` hexadecimal digits at the front, in either case, and the text
-/// after them.
+/// The number of the hexadecimal digits at the front, in either case, and the text after them.
+/// None: there is no digit, or there are more than `most`.
 pub fn read_hex(text: &[u8], most: usize) -> Option<(u64, &[u8])>
     requires { most ≤ 16 }
     ensures reads { option_map (λ read. (read.0, read.1.now)) result ≡ hex_at most text.now }
@@ -14,8 +14,8 @@ pub fn read_hex(text: &[u8], most: usize) -> Option<(u64, &[u8])>
     digits_at(text, 16, most)
 }
 
-/// The number of the one to `most` decimal digits at the front, which is at most `greatest`, and
-/// the text after them.
+/// The number of the decimal digits at the front, and the text after them. None: there is none, or
+/// there are more than `most`, or the number is above `greatest`.
 pub fn read_decimal(text: &[u8], most: usize, greatest: u64) -> Option<(u64, &[u8])>
     requires { most ≤ 19 }
     ensures reads { option_map (λ read. (read.0, read.1.now)) result ≡ decimal_at most greatest text.now }

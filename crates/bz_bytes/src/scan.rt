@@ -9,7 +9,7 @@ pub trait ByteTest {
     /// Whether a byte passes.
     ghost passes: { ℕ → Bool };
 
-    /// A bit for each of the first 32 bytes that doesn't pass.
+    /// The bits of the first 32 bytes that don't pass; bit 0 is that of the first byte.
     fn stops(text: &[u8]) -> u64
         requires { 32 ≤ length text.now }
         ensures { result ≡ mask_l (map (λ b. not (passes b)) (take 32 text.now)) };

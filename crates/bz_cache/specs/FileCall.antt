@@ -57,7 +57,7 @@ file_cache test taken cache path there = cond taken (look test cache path there)
 abbrev pub file_opens : Bool → Cache → List ℕ → Option Entry → Bool
 file_opens taken cache path there = taken && will_open cache path there
 
--- what a call leaves: what is expected; after a fault what was, and where memory ran out one of both
+-- what a call leaves: what is expected; after a fault what was; where memory ran out either of them
 abbrev pub Leaves : {A S : Type 0} → Result A Error → S → S → S → Type 0
 Leaves (Err errors.ReadFault) old expected now = now ≡ old
 Leaves (Err errors.OutOfMemory) old expected now = (now ≡ old) ⊎ (now ≡ expected)
@@ -69,7 +69,7 @@ pub record FileTold {A B : Type 0} (reading : A → B) (asked : Question B) (pat
   -- its answer, and what it leaves
   pub answer : GivesOrFaults reading (file_answer asked old path there) result
   pub state : Leaves result old (file_cache asked.test asked.taken old path there) now
-  -- the file is read exactly where it has to be: by a call that is answered, and by no call else
+  -- an answered call reads the file exactly where it has to; no call reads it where it needn't
   pub opened : OnOk result (after ≡ opens_after (file_opens asked.taken old path there) before)
   pub spared : file_opens asked.taken old path there ≡ false → after ≡ before
 

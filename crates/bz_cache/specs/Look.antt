@@ -85,7 +85,7 @@ pub record Lends (test : List ℕ → Option Error) (old new : Cache) (path byte
   -- each stamp is kept exactly while some path names it, and each kept version is in the format
   pub consistent : Consistent test new
 
--- a look that isn't answered leaves the cache, and is none at a fixed path
+-- a look that isn't answered changes nothing, and never comes at a fixed path
 pub record Unanswered (old new : Cache) (path : List ℕ) : Type 0 where
   pub unchanged : new ≡ old
   pub not_fixed : IsSome (fixed old path) → ⊥

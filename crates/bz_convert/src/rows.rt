@@ -194,9 +194,12 @@ fn push_row(
     let Some(line) = line else {
         return Ok(());
     };
-    if before != Some(line) {
-        rows.push(LineRow { addr, line })?;
+    if let Some(former) = before {
+        if former == line {
+            return Ok(());
+        }
     }
+    rows.push(LineRow { addr, line })?;
     Ok(())
 }
 

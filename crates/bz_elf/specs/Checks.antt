@@ -1,4 +1,4 @@
--- What is asked of the bytes of an ELF file, check by check.
+-- What is asked of the bytes of an ELF file, check by check: see the System V gABI, chapters 4 and 5.
 use Rattle.std.specs.Prelude.{◌≡◌, ℕ, ◌*◌, ◌%◌, ◌==◌, ◌&&◌, ◌||◌, not, nat_le, Bool, true, false, if◌then◌else◌, List, length, Option, Some, None}
 use Rattle.std.specs.List.{list_all}
 use Rattle.bz_base.specs.Little.{number_at}

@@ -28,8 +28,8 @@ abbrev pub found : Option (List ℕ) → Option Symbol → Result Resolved Reaso
 found «module» None = Err reasons.UnknownAddr
 found «module» (Some symbol) = Ok (resolved «module» symbol)
 
--- of symbols in the order of their file, what the nearest one says that covers an address; without
--- symbols none is there
+-- of symbols in the order of their file, what the nearest says, if it covers the address; without
+-- symbols, that they are missing
 abbrev pub answer_in : Option (List ℕ) → List Symbol → ℕ → Result Resolved Reason
 answer_in «module» [] addr = Err reasons.MissingSyms
 answer_in «module» (symbol ∷ later) addr = found «module» (nearest_covering (λ s. s.start) (λ s. s.size) addr (symbol ∷ later))

@@ -36,8 +36,8 @@ pub trait Files {
     /// The world in view, and after it those to come; none where nothing is told.
     ghost worlds: { Self → Option (List World) };
 
-    /// How many looks have failed. It rises by one at a fault, unless it is at its last value, and at
-    /// no other answer.
+    /// How many looks ended in a `Fault`. It rises by one at each, unless it is at its last value,
+    /// and at no other answer.
     ghost faults: { Self → ℕ };
 
     /// How many files were read.

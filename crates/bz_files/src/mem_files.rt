@@ -143,7 +143,7 @@ impl MemFiles {
         Ok(())
     }
 
-    /// How many looks have failed.
+    /// How many looks ended in a `Fault`.
     pub fn faults(&self) -> u64
         ensures count { result ≡ self.now.faults }
         ensures tells { 0 < length self.now.worlds }

@@ -88,7 +88,7 @@ impl MemIn {
         self.calls.failing = Some(n);
     }
 
-    /// How many calls have failed.
+    /// How many calls ended in a `Fault`.
     pub fn faults(&self) -> u64
         ensures { result ≡ self.now.faults }
     {
@@ -156,7 +156,7 @@ impl MemOut {
         self.calls.failing = Some(n);
     }
 
-    /// How many calls have failed.
+    /// How many calls ended in a `Fault`.
     pub fn faults(&self) -> u64
         ensures { result ≡ self.now.faults }
     {

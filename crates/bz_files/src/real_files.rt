@@ -23,7 +23,7 @@ use std::{fs, rt};
 /// The greatest length of a file that is read, in bytes.
 const MOST_BYTES: u64 = 1073741824;
 
-/// The files that a runtime reaches.
+/// The files that a runtime reaches. Reading one of more than 1 GiB is a fault.
 #[derive(Drop)]
 pub struct RealFiles<R: Drop> {
     rt: R,
@@ -53,7 +53,7 @@ impl<R: rt::Files + Drop> RealFiles<R> {
         }
     }
 
-    /// How many looks have failed.
+    /// How many looks ended in a `Fault`.
     pub fn faults(&self) -> u64
         ensures { result ≡ self.now.faults }
     {
@@ -164,7 +164,7 @@ fn stamp_of(found: &Metadata) -> Stamp
     }
 }
 
-/// The bytes of the file at the path, with its stamp. A longer file than is read is a fault.
+/// The bytes of the file at the path, with its stamp. A file longer than `MOST_BYTES` is a fault.
 fn bytes_at<R: rt::Files>(rt: &R, alloc: Global, path: &str) -> Result<StampedBytes, FileError>
     ensures whole { IfOk result (λ read. IsWholeFile R.File.remaining read.bytes.items) }
     ensures within { IfOk result (λ read. length read.bytes.items ≤ most_bytes) }

@@ -11,7 +11,7 @@ use crate::text::{IoFault, TextIn, TextOut};
 use std::io::{ErrorKind, Read, Write};
 use std::marker::Model;
 
-/// How many calls in a row the system may interrupt. That many are a fault.
+/// So many calls in a row that the system interrupted are a fault.
 const MOST_INTERRUPTED: usize = 64;
 
 /// A text that is read from a reader.
@@ -40,7 +40,7 @@ impl<R: Read + Drop> RealIn<R> {
         }
     }
 
-    /// How many calls have failed.
+    /// How many calls ended in a `Fault`.
     pub fn faults(&self) -> u64
         ensures { result ≡ self.now.faults }
     {
@@ -99,7 +99,7 @@ impl<W: Write + Drop> RealOut<W> {
         }
     }
 
-    /// How many calls have failed.
+    /// How many calls ended in a `Fault`.
     pub fn faults(&self) -> u64
         ensures { result ≡ self.now.faults }
     {

@@ -9,7 +9,7 @@ pub struct Stamp {
     pub inode: u64,
     /// The file's length, in bytes.
     pub size: u64,
-    /// When the file was last changed: seconds since 1970.
+    /// When the file was last modified: seconds since the Unix epoch.
     pub mtime_sec: i64,
     /// The nanoseconds past that second.
     pub mtime_nsec: i64,

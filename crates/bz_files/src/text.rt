@@ -18,8 +18,8 @@ pub trait TextIn {
     /// The bytes that are left; none where they aren't told.
     ghost left: { Self → Option (List ℕ) };
 
-    /// How many calls have failed. It rises by one at a fault, unless it is at its last value, and at
-    /// no other answer.
+    /// How many calls ended in a `Fault`. It rises by one at each, unless it is at its last value,
+    /// and at no other answer.
     ghost faults: { Self → ℕ };
 
     /// Moves the next bytes to the front of `piece`, and says how many. At a piece that isn't empty
@@ -36,8 +36,8 @@ pub trait TextOut {
     /// The bytes written so far; none where they aren't told.
     ghost written: { Self → Option (List ℕ) };
 
-    /// How many calls have failed. It rises by one at a fault, unless it is at its last value, and at
-    /// no other answer.
+    /// How many calls ended in a `Fault`. It rises by one at each, unless it is at its last value,
+    /// and at no other answer.
     ghost faults: { Self → ℕ };
 
     /// Writes bytes from the front of `piece`, at least one where there is one, and says how many.

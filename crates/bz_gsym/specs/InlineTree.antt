@@ -70,7 +70,7 @@ matches base addr head = some_has_inside base addr head.ranges
 unfoldable pub children_base : ℕ → Head → ℕ
 children_base base head = first_start base head.ranges
 
--- a frame, whose line is cut to 32 bits: none for name 0
+-- a frame, whose line is at most the greatest number of 32 bits: none for name 0
 unfoldable pub frame_by : ℕ → ℕ → ℕ → Option Frame
 frame_by name call_file call_line =
     if name == 0 then None

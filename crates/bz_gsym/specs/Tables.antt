@@ -21,7 +21,7 @@ data_place_len = 4
 abbrev pub file_count_len : ℕ
 file_count_len = 4
 
--- how many bytes a file has: those of its directory and of its name
+-- how many bytes an entry of the file table has: the places of a directory and of a name
 abbrev pub file_entry_len : ℕ
 file_entry_len = 8
 

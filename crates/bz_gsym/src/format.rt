@@ -18,7 +18,7 @@ pub const DATA_PLACE_LEN: usize = 4;
 /// How many bytes the count of files has.
 pub const FILE_COUNT_LEN: usize = 4;
 
-/// How many bytes a file has: those of its directory and of its name.
+/// How many bytes an entry of the file table has: the places of a directory and of a name.
 pub const FILE_ENTRY_LEN: usize = 8;
 
 /// How many bytes stand before a symbol's data entries: those of its size and of its name.

@@ -121,7 +121,7 @@ fn keep_frame(frames: &mut Vec<InlineFrame>, frame: Option<InlineFrame>) -> Resu
     Ok(())
 }
 
-/// What the next node gives, or None at the end of siblings.
+/// What the next node gives, None inside at the end of siblings. None: it isn't whole, or is refused.
 #[inline(always)]
 fn visit(cursor: &mut Cursor<'_>, level: Level, addr: u64) -> Option<Option<Visit>>
     ensures some { IfSome result (λ found. visit_at addr level cursor.old.left ≡ Some (option_map visit_seen found, cursor.new.left)) }

@@ -1,12 +1,10 @@
 //! What holds of the definitions that the contracts cite.
 
 ghost use Rattle.std.specs.Prelude.{◌≡◌, ◌≤◌, ◌↔◌, true, ℕ, List, None, Some, Ok, slice_get};
-ghost use Rattle.bz_base.specs.Answer.{Resolved};
+ghost use Rattle.bz_base.specs.Answer.{Call, Resolved, Site};
 ghost use Rattle.bz_base.specs.declared.types.FindSymOpts.{FindSymOpts};
-ghost use Rattle.bz_gsym.specs.Plain.{plain};
-ghost use Rattle.bz_base.specs.Answer.{Call, Site};
+ghost use Rattle.bz_gsym.specs.Plain.{nearest_symbol, plain};
 ghost use Rattle.bz_base.specs.ZeroEnded.{IsString};
-ghost use Rattle.bz_gsym.specs.Plain.{nearest_symbol};
 ghost use Rattle.bz_gsym.specs.Entries.{AreEntries, Entry, entries_in};
 ghost use Rattle.bz_gsym.specs.Joining.{IsSeen, seen_from};
 ghost use Rattle.bz_gsym.specs.LineTable.{followed, operator_at, picked, sought, states};

@@ -76,8 +76,8 @@ impl LineTableRow {
 }
 
 /// Runs the operator in front of `ops`: the row takes the operator's state, and the cursor goes past
-/// it. None: no operator is left, its operand is missing, or the range of a special one is below one.
-/// Then the row is unchanged, and the cursor stands after the operator's byte, if there was one.
+/// it. None: no operator is left, its operand is missing, or it is special and `max_delta` is below
+/// `min_delta`. Then the row is unchanged, and the cursor stands after the operator's byte, if any.
 #[tactic(auto, unfolding(crate::specs::LineTable::operator_at))]
 pub fn run_op(
     row: &mut LineTableRow,
@@ -176,7 +176,7 @@ fn low_sum(line: u32, delta: i64) -> u32
 }
 
 /// The state that answers for an address, in the line table of the symbol that begins at `start`.
-/// None: the table's head isn't whole. None inside: no row answers for the address.
+/// None: the table's head isn't whole. None inside: no state answers for the address.
 #[inline(never)]
 pub(crate) fn line_in(bytes: &[u8], start: Addr, addr: Addr) -> Option<Option<LineTableRow>>
     ensures { result ≡ line_in start addr bytes.now }

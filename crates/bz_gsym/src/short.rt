@@ -1,5 +1,5 @@
 //! LEB128 numbers, of which those of one or two bytes are read without a branch between the two.
-//! This is for speed alone: `Cursor` reads the same numbers, and here all longer ones. Its own quick
+//! This is for speed alone: `Cursor` reads the same numbers, and here all others. Its own quick
 //! path is for one byte; by this one answers are faster.
 
 ghost use Rattle.std.specs.Prelude.{◌≡◌, ◌+◌, ◌<◌, ◌≤◌, drop, length, Some, IfNone, IfSome};
@@ -58,13 +58,13 @@ pub(crate) fn pass(cursor: &mut Cursor<'_>, len: usize)
 /// The bits of a number of one or two bytes.
 #[derive(Drop)]
 struct Short {
-    /// The bits, the least first.
+    /// The number that the low 7 bits of the bytes make.
     bits: u16,
     /// How many bytes there are before the last: 0 or 1.
     marked: u8,
 }
 
-/// The unsigned number in front of the bytes and its length, if that is one or two bytes.
+/// The unsigned number in front of at least two bytes and its length, if that is one or two bytes.
 #[inline(always)]
 fn short_unsigned(bytes: &[u8]) -> Option<(u64, usize)>
     ensures reads { IfSome result (λ read. uleb_at bytes.now ≡ Some (read.0, drop read.1 bytes.now)) }
@@ -74,7 +74,7 @@ fn short_unsigned(bytes: &[u8]) -> Option<(u64, usize)>
     Some((u64::from(short.bits), 1 + usize::from(short.marked)))
 }
 
-/// The signed number in front of the bytes and its length, if that is one or two bytes.
+/// The signed number in front of at least two bytes and its length, if that is one or two bytes.
 #[inline(always)]
 fn short_signed(bytes: &[u8]) -> Option<(i64, usize)>
     ensures reads { IfSome result (λ read. sleb_at bytes.now ≡ Some (read.0, drop read.1 bytes.now)) }
@@ -91,7 +91,7 @@ fn short_signed(bytes: &[u8]) -> Option<(i64, usize)>
     }
 }
 
-/// The bits of the number in front of the bytes, if it has one or two bytes.
+/// The bits of the number in front of at least two bytes, if it has one or two.
 #[inline(always)]
 fn front_bits(bytes: &[u8]) -> Option<Short>
     ensures { IfSome result (λ short. IsShort bytes.now short.bits short.marked) }

@@ -133,7 +133,7 @@ abbrev pub strings_place : List Code → Tables → ℕ
 strings_place codes t =
     header_len + addr_off_size * length codes + data_place_len * length codes + file_count_len + file_entry_len * suc (length t.sources)
 
--- the tables up to the string table; behind starts of 8 bytes no filling is needed, and file 0 is none
+-- the tables up to the string table; behind starts of 8 bytes no padding is needed, and file 0 is none
 abbrev pub table_bytes : List Code → Tables → List ℕ → List ℕ
 table_bytes codes t places =
     flat_map (λ (c : Code). word addr_off_size c.start) codes

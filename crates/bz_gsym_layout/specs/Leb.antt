@@ -1,5 +1,5 @@
--- LEB128 numbers, of the DWARF standard, as they are written: with as few bytes as they have, each of 7
--- bits, the least first. All but the last are marked.
+-- LEB128 numbers, of the DWARF standard, as they are written: in as few bytes as hold them, 7 bits in
+-- each, the least first. All but the last are marked.
 use Rattle.std.specs.Prelude.{ℕ, zero, suc, ℤ, pos, negsuc, ◌+◌, ◌-◌, ◌/◌, ◌%◌, nat_lt, List, [], ◌∷◌, if◌then◌else◌}
 
 -- an unsigned number, with so many bytes behind the first at most

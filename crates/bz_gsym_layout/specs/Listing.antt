@@ -1,4 +1,4 @@
--- Texts and source files, each listed once, with the index that it is found by.
+-- Texts and source files, each listed once, with the index that it is listed at.
 use Rattle.std.specs.Prelude.{◌≡◌, ℕ, Bool, ◌==◌, ◌&&◌, List, map}
 use Rattle.std.specs.BTreeMap as btree
 use Rattle.std.specs.Borrow.{Bor}

@@ -17,7 +17,7 @@ module _ {X : Type 0} (depth : X → ℕ) where
       else (if depth x == at then Call x (nested (at + 1) xs) (nested at xs) else nested at xs)
 
 module _ {X : Type 0} (start size : X → ℕ) where
-  -- the calls that have an address inside, each inside the one before it
+  -- the calls that have an address inside, as those around them do, each before those inside it
   abbrev pub calls_in : ℕ → Forest X → List X
   calls_in addr NoCalls = []
   calls_in addr (Call x within after) = (if inside (start x) (size x) addr then x ∷ calls_in addr within else []) ++ calls_in addr after

@@ -23,8 +23,8 @@ pub fn numbers_are_read()
 {}
 
 /// Where 32 bits count the bytes of functions that can be laid out, their plain answer at each
-/// address is that of the functions, and each inline entry has a tree. Where the starts ascend too,
-/// they are a GSYM file.
+/// address is that of the functions. The inline entry of each whose end fits 64 bits has a tree.
+/// Where the starts ascend too, the bytes are a GSYM file.
 pub fn layouts_answer_as_planned()
     ensures format { (codes : List Code) → AllByRecursion IsLayable codes → StartsAscend codes → length (layout codes) < 2 ^ 32 → IsGsym (layout codes) }
     ensures answers { (codes : List Code) → AllByRecursion IsLayable codes → length (layout codes) < 2 ^ 32 → (addr : ℕ) →

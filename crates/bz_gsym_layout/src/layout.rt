@@ -33,7 +33,7 @@ fn usual_len(data_at: usize, functions: &[Function]) -> usize {
 }
 
 /// Writes the data of functions behind what is written of the file, each at the next place that is
-/// divisible by 4. The answer has these places. Texts have those given in the string table.
+/// divisible by 4. The answer has these places. `texts` are the places of texts in the string table.
 fn push_data(
     alloc: Global,
     out: &mut Vec<u8>,
@@ -56,8 +56,8 @@ fn push_data(
     Ok(places)
 }
 
-/// What stands before the functions' data, which lie at these places; texts have those given in the
-/// string table, which stands at a place.
+/// What stands before the functions' data, which lie at these places. The string table stands at
+/// `strings_at`, and `texts` are the places of texts in it.
 fn front_of(
     alloc: Global,
     plan: &Plan<'_>,

@@ -43,7 +43,7 @@ pub struct Node {
 /// A function.
 #[derive(Drop)]
 pub struct Function {
-    /// Where its code begins.
+    /// Where its code begins: an address relative to the module's base.
     pub start: u64,
     /// How many bytes its code has.
     pub size: u32,
@@ -55,7 +55,7 @@ pub struct Function {
     pub calls: Vec<Node>,
 }
 
-/// Functions, and what they refer to: texts and source files, each once, where it is first used.
+/// Functions, and what they refer to: texts and source files, each once, in the order of first use.
 #[derive(Drop)]
 pub struct Plan<'a> {
     /// The texts.

@@ -58,7 +58,7 @@ fn push_rows(out: &mut Vec<u8>, start: u64, rows: &[Row]) -> Result<()>
     Ok(())
 }
 
-/// Writes the line table of a function that starts there: a header of zeros, the rows, and the end.
+/// Writes the line table of a function that starts there: a head of zeros, the rows, and the end.
 pub(crate) fn push_line_table(out: &mut Vec<u8>, start: u64, rows: &[Row]) -> Result<()>
     requires { NeverBefore start rows.now }
     ensures ok { OnOk result ((t : Tables) (lines : List (ℕ × Line)) → AreRowsOf t lines rows.now → out.new.items ≡ out.old.items ++ line_table_bytes t start lines) }

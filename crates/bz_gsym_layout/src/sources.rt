@@ -8,10 +8,10 @@ use crate::plan::SourceFile;
 use std::alloc::{AllocError, Global};
 use std::collections::BTreeMap;
 
-/// Source files that were used, each listed where it was first used, by the indexes of the texts of its
-/// directory and its name.
+/// Source files that were used, by the indexes of the texts of their directories and names.
 #[derive(Drop)]
 pub struct Sources {
+    /// The source files, each listed where it was first used.
     pub listed: Vec<SourceFile>,
     /// The index of each source file in the list.
     pub indexes: BTreeMap<(usize, usize), usize>,

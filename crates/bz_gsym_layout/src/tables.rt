@@ -59,10 +59,7 @@ pub(crate) fn further(place: u64, by: u64) -> Result<u64>
     ensures sum { IfOk result (λ end. end ≡ place + by) }
     ensures memory { IsOkUnless result LayoutError.OutOfMemory }
 {
-    match place.checked_add(by) {
-        Some(end) => Ok(end),
-        None => Err(LayoutError::OutOfMemory),
-    }
+    place.checked_add(by).ok_or(LayoutError::OutOfMemory)
 }
 
 /// So many times a number, if 64 bits count that.
@@ -70,10 +67,7 @@ fn times(number: u64, count: u64) -> Result<u64>
     ensures product { IfOk result (λ all. all ≡ number * count) }
     ensures memory { IsOkUnless result LayoutError.OutOfMemory }
 {
-    match number.checked_mul(count) {
-        Some(all) => Ok(all),
-        None => Err(LayoutError::OutOfMemory),
-    }
+    number.checked_mul(count).ok_or(LayoutError::OutOfMemory)
 }
 
 /// Where the string table stands in a file of so many functions and source files. In front of it lie

@@ -6,9 +6,10 @@ ghost use Rattle.bz_gsym_layout.specs.Listing.{AreTexts, listed_texts};
 use std::alloc::{AllocError, Global};
 use std::collections::HashMap;
 
-/// Texts that were used, each listed where it was first used.
+/// Texts that were used.
 #[derive(Drop)]
 pub struct Texts<'a> {
+    /// The texts, each listed where it was first used.
     pub listed: Vec<&'a str>,
     /// The index of each text in the list.
     pub indexes: HashMap<&'a str, usize>,

@@ -190,5 +190,8 @@ impl<'d> Held<'d> {
 pub(crate) fn record_at(records: &[FoundRecord], index: usize) -> FoundRecord
     ensures { result ≡ slice_index_or records.now index FoundRecord.Absent }
 {
-    records.get(index).copied().unwrap_or(FoundRecord::Absent)
+    match records.get(index) {
+        Some(record) => *record,
+        None => FoundRecord::Absent,
+    }
 }

@@ -32,8 +32,8 @@ pub record Mapping : Type 0 where
 
 -- Names.
 
--- the path in `/proc` that stands for a mapping, whose addresses are in lower case and without leading
--- zeros
+-- the path in `/proc` that stands for a mapping, by proc_pid_map_files(5): its addresses are in lower
+-- case and without leading zeros
 abbrev pub maps_file : Pid → ℕ → ℕ → List ℕ
 maps_file pid start past = codes "/proc/" ++ (pid_text pid ++ (codes "/map_files/" ++ (digits 16 false start ++ (codes "-" ++ digits 16 false past))))
 

@@ -1,5 +1,5 @@
--- Where the perf map of a process lies: in `/tmp` as the process sees it, named after the id by which
--- it knows itself.
+-- Where the perf map of a process lies: as jit-interface.txt of Linux's perf has it, in `/tmp` as the
+-- process sees it (proc_pid_root(5)), named after the id by which it knows itself.
 use Rattle.std.specs.Prelude.{ℕ, false, List, ◌++◌, codes}
 use Rattle.std.specs.Fmt.{digits}
 use Rattle.bz_base.specs.Pid.{resolved}

@@ -75,7 +75,7 @@ impl PathName {
 pub struct MapsEntry {
     /// The addresses, absolute in the process.
     pub range: Range<Addr>,
-    /// The offset in the file of what is mapped at the first address.
+    /// The offset in the file, in bytes, of what is mapped at the first address.
     pub offset: u64,
     /// What is mapped, if that is told.
     pub path_name: Option<PathName>,

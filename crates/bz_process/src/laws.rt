@@ -62,7 +62,7 @@ pub fn entries_are_in_view<D: ProcessDispatch + Drop, F: Files, A>()
 
 /// Where the world is told, a call on a process reads no more files than were left to read, each
 /// once. These are the text of the mappings where none are kept, and the status of a process that
-/// isn't remembered. With them go each mapped file and perf map whose present stamp isn't kept. An
+/// isn't remembered. With them goes each mapped file and perf map whose present stamp isn't kept. An
 /// answered batch may read one more for each address that is refused, a refused batch one more for
 /// each address. `paths` may be any list that has the paths of the mapped files.
 pub fn reads_are_few<D: ProcessDispatch + Drop, F: Files, A>()

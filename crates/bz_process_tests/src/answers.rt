@@ -1,10 +1,10 @@
 //! What addresses of a process answer, where no dispatcher is in charge.
 
-use crate::files::{FIRST, File};
+use crate::files::File;
 use crate::steps::{Step, Told, holds};
 use bz_base::{Addr, Error, Input, Reason};
 use bz_process::NoDispatch;
-use bz_samples::ELF_FUNCTION;
+use bz_samples::{ELF_FUNCTION, PROCESS_FILES};
 
 /// Addresses, in this order:
 /// - outside the mappings;
@@ -35,23 +35,26 @@ pub(crate) const MAPPED_FILE: &[File] = &[
 /// Stories in which one call asks process 7.
 static STORIES: [&[Step]; 12] = [
     // Each address is answered by its mapping.
-    &[Step::Files(FIRST), Step::Batch(Input::AbsAddr(ADDRS), TOLD)],
     &[
-        Step::Files(FIRST),
+        Step::Files(PROCESS_FILES),
+        Step::Batch(Input::AbsAddr(ADDRS), TOLD),
+    ],
+    &[
+        Step::Files(PROCESS_FILES),
         Step::Alone(0x1004, Told::Refused(Error::InvalidData)),
     ],
     // Memory without a perf map is unknown.
     &[
-        Step::Files(FIRST),
+        Step::Files(PROCESS_FILES),
         Step::AloneWithoutPerfMap(0x3008, Told::Unknown(Reason::UnknownAddr)),
     ],
     &[
-        Step::Files(FIRST),
+        Step::Files(PROCESS_FILES),
         Step::Remove("/proc/7/root/tmp/perf-7.map"),
         Step::Alone(0x3008, Told::Unknown(Reason::UnknownAddr)),
     ],
     &[
-        Step::Files(FIRST),
+        Step::Files(PROCESS_FILES),
         Step::Remove("/proc/7/root/tmp/perf-7.map"),
         Step::Remove("/proc/7/status"),
         Step::Alone(0x3008, Told::Unknown(Reason::UnknownAddr)),

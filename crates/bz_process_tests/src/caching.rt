@@ -1,13 +1,13 @@
 //! What is kept of a process ahead of its addresses, and what an evict leaves of it.
 
-use crate::files::{FIRST, LATER};
+use crate::files::LATER;
 use crate::steps::{Step, Told, holds};
 use bz_base::{Error, Reason};
 use bz_process::NoDispatch;
-use bz_samples::ELF_FUNCTION;
+use bz_samples::{ELF_FUNCTION, PROCESS_FILES};
 
 /// All is cached of the first files.
-pub(crate) const CACHED: &[Step] = &[Step::Files(FIRST), Step::Cache(true, true, Ok(()))];
+pub(crate) const CACHED: &[Step] = &[Step::Files(PROCESS_FILES), Step::Cache(true, true, Ok(()))];
 
 /// All that was cached of the first files answers, though no file is there: the mappings, the id and
 /// the perf map.
@@ -55,13 +55,13 @@ static STORIES: [&[&[Step]]; 6] = [
     // Mappings and perf map are cached as asked for.
     &[
         &[
-            Step::Files(FIRST),
+            Step::Files(PROCESS_FILES),
             Step::Cache(false, false, Ok(())),
             Step::Opens(0),
         ],
         IS_UNKEPT,
         &[
-            Step::Files(FIRST),
+            Step::Files(PROCESS_FILES),
             Step::Cache(false, true, Ok(())),
             Step::Remove("/proc/7/root/tmp/perf-7.map"),
             Step::Alone(0x3008, Told::Symbol("jit", 0x3000, "")),
@@ -72,7 +72,7 @@ static STORIES: [&[&[Step]]; 6] = [
     // A perf map that is gone is pinned as it is held.
     &[
         &[
-            Step::Files(FIRST),
+            Step::Files(PROCESS_FILES),
             Step::Alone(0x3008, Told::Symbol("jit", 0x3000, "")),
             Step::Remove("/proc/7/root/tmp/perf-7.map"),
             Step::Alone(0x3008, Told::Unknown(Reason::UnknownAddr)),
@@ -92,7 +92,7 @@ static STORIES: [&[&[Step]]; 6] = [
     &[CACHED, &[Step::ForgetPath("/bin/bad")], STANDS_ALONE],
 ];
 
-/// A file is pinned, and stays so where it is refused, until it is evicted.
+/// A refused file isn't pinned. A pinned one stays so where it is refused, until it is evicted.
 static PINNED_FILE: [Step; 14] = [
     Step::Put("/e", &ELF_FUNCTION),
     Step::IsElf("/e", true),

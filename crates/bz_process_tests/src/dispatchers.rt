@@ -5,14 +5,14 @@ ghost use Rattle.bz_base.specs.Resolution.{MayGive};
 ghost use Rattle.bz_process.specs.Member.{MayRefuseMember};
 ghost use Rattle.bz_process_tests.specs.Dispatchers.{given_for_vdso, vdso_resolver};
 
-use crate::files::{FIRST, File};
+use crate::files::File;
 use crate::steps::{Step, Told, holds};
 use crate::symbolizer::{self, all_hold};
 use bz_base::{Error, Input, Reason, Result};
 use bz_elf::ElfResolver;
 use bz_proc::PathName;
 use bz_process::{ProcessDispatch, ProcessMemberInfo};
-use bz_samples::ELF_FUNCTION;
+use bz_samples::{ELF_FUNCTION, PROCESS_FILES};
 use bz_symbolize::Builder;
 use std::alloc::Global;
 
@@ -57,7 +57,7 @@ fn vdso(alloc: Global) -> Result<Option<ElfResolver>>
 /// The resolver answers for the part of the system, and for a mapped file no one does. Where the
 /// mappings may not be read, the batch is refused.
 static RESOLVED: [Step; 4] = [
-    Step::Files(FIRST),
+    Step::Files(PROCESS_FILES),
     Step::Batch(
         Input::AbsAddr(&[0x5088, 0x1004]),
         &[

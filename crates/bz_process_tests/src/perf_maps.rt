@@ -184,7 +184,7 @@ fn is_refused(alloc: Global, bytes: &[u8]) -> bool {
     }
 }
 
-/// Processes, of which 0 is the own one, their own ids, and where their perf maps lie.
+/// Processes (0 is the own one), the ids by which they know themselves, and their perf maps' paths.
 static PATHS: [(u32, u32, &str); 5] = [
     (1337, 1, "/proc/1337/root/tmp/perf-1.map"),
     (0, 7, "/proc/7/root/tmp/perf-7.map"),

@@ -102,7 +102,7 @@ static STATUSES: [Step; 9] = [
     Step::Deny("/proc/13/status"),
 ];
 
-/// A process knows itself by the last id, and one file is read for each.
+/// A process knows itself by the last id or, without one, by its own. One file is read for each.
 static IDS: [Step; 6] = [
     Step::Id(0, Ok(7)),
     Step::Id(7, Ok(3)),

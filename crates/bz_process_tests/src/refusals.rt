@@ -35,7 +35,7 @@ static REFUSED: [&[Step]; 8] = [
         Step::Put("/proc/7/root/tmp/perf-7.map", b"123\n"),
         Step::Cache(true, true, Err(Error::InvalidData)),
     ],
-    // The mappings are read, and the perf map is looked at and read.
+    // One of the first three looks fails: at mappings, perf map, or status where it isn't remembered.
     &[
         Step::Files(LATER),
         Step::Fail(1),
@@ -98,8 +98,8 @@ fn first_wrong(
 
 #[test]
 fn a_refusal_keeps_nothing(rt: HostRuntime) {
-    let remembered = first_wrong(rt.alloc(), &[], &REFUSED, IS_UNKEPT);
-    assert!(rt; remembered == None, "remembered, row {remembered:?}");
+    let refused = first_wrong(rt.alloc(), &[], &REFUSED, IS_UNKEPT);
+    assert!(rt; refused == None, "refused, row {refused:?}");
     let unknown = first_wrong(rt.alloc(), &[], &REFUSED_UNKNOWN, IS_UNKEPT);
     assert!(rt; unknown == None, "not remembered, row {unknown:?}");
 }

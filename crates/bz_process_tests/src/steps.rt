@@ -122,7 +122,7 @@ pub(crate) fn are_given(answers: Result<Vec<Symbolized<'_>>, Error>, told: &[Tol
 }
 
 /// How process 7 is asked: whether its perf map answers, and whether mapped files are looked at by the
-/// paths that stand for them.
+/// paths that stand for their mappings.
 type Asked = (bool, bool);
 
 /// What asks process 7 so.

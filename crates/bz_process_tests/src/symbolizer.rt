@@ -4,12 +4,13 @@ ghost use Rattle.std.specs.Prelude.{◌≡◌, ◌<◌};
 
 use crate::answers::{ADDRS, MAPPED_FILE, TOLD};
 use crate::calling::answers_in;
-use crate::files::{FIRST, File, replace};
+use crate::files::{File, replace};
 use crate::steps::{Told, are_given, is_given};
 use bz_base::Input::{AbsAddr, VirtOffset};
 use bz_base::{Addr, Error, Input, Pid, Steps};
 use bz_files::MemFiles;
 use bz_process::ProcessDispatch;
+use bz_samples::PROCESS_FILES;
 use bz_symbolize::Symbolizer;
 use bz_symbolize::source::{Elf, Process, Source};
 use std::alloc::Global;
@@ -38,7 +39,7 @@ pub(crate) enum Step {
     LookedUp(&'static [Addr], Error),
 }
 
-/// Process 7. Its mapped files are looked at by the paths that stand for them, or by their own.
+/// Process 7, whose mapped files are looked at by their mappings' paths in `/proc`, or by their own.
 fn process(map_files: bool) -> Source<'static> {
     let mut process = Process::new(Pid::from(7));
     process.map_files = map_files;
@@ -187,10 +188,10 @@ fn holds(alloc: Global, story: &[Step]) -> bool {
 
 /// Stories of a new symbolizer.
 static STORIES: [&[Step]; 5] = [
-    // A batch is answered, and once more without reading the status and the perf map, which are known
-    // by then, again. Addresses alone, and those of another kind, are refused.
+    // A batch is answered twice, and the second time status and perf map aren't read again. Of two
+    // addresses alone one is answered and one refused. Another kind of address is refused.
     &[
-        Step::Files(FIRST),
+        Step::Files(PROCESS_FILES),
         Step::Batch(ADDRS, TOLD),
         Step::Opens(4),
         Step::Batch(ADDRS, TOLD),
@@ -200,12 +201,12 @@ static STORIES: [&[Step]; 5] = [
         Step::Alone(VirtOffset(0x3008), Told::Refused(Error::Unsupported)),
     ],
     // A caller gets the same answers.
-    &[Step::Files(FIRST), Step::Called(ADDRS, TOLD)],
+    &[Step::Files(PROCESS_FILES), Step::Called(ADDRS, TOLD)],
     // They are the same with a count of the steps.
-    &[Step::Files(FIRST), Step::Counted(ADDRS, TOLD)],
+    &[Step::Files(PROCESS_FILES), Step::Counted(ADDRS, TOLD)],
     // Looking addresses of the process up is refused, though its files are there.
     &[
-        Step::Files(FIRST),
+        Step::Files(PROCESS_FILES),
         Step::LookedUp(ADDRS, Error::Unsupported),
         Step::Opens(0),
     ],

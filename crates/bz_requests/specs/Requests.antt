@@ -20,7 +20,7 @@ pub data Target : Type 0 where
   Process : ℕ → Target
 
 -- what a symbolizer is asked: the answers of a target to addresses, or to one alone. Or it is to keep,
--- or to forget, an ELF file or the files of a process
+-- or to forget, an ELF file, or the mappings and the perf map of a process
 pub data Request : Type 0 where
   Batch : Target → List ℕ → Request
   Single : Target → ℕ → Request

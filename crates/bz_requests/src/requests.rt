@@ -11,7 +11,7 @@ use bz_base::Input;
 pub struct Config {
     /// Whether files are looked at anew at each call.
     pub reload: bool,
-    /// Whether answers have places in the source code.
+    /// Whether answers have sites in the source code.
     pub code_info: bool,
     /// Whether answers have inlined calls.
     pub inlined: bool,
@@ -33,7 +33,7 @@ pub enum Target {
 }
 
 impl Target {
-    /// What addresses of the source are relative to, unless something else is said.
+    /// What addresses of the target are relative to, unless something else is said.
     pub fn usual_kind(&self) -> Input<()>
         ensures { address_kind result ≡ usual_kind (target_of self.now) }
     {
@@ -45,16 +45,16 @@ impl Target {
     }
 }
 
-/// A request to a symbolizer. Addresses are of the usual kind of their source.
+/// A request to a symbolizer. Addresses are of the usual kind of their target.
 #[derive(Drop)]
 pub enum Request {
-    /// The answers of a source to addresses.
+    /// The answers of a target to addresses.
     Batch(Target, Vec<u64>),
-    /// The answer of a source to an address alone.
+    /// The answer of a target to an address alone.
     Single(Target, u64),
     /// The ELF file at a path is to be kept.
     CacheElf(String),
-    /// What answers for the process with an id is to be kept; 0 is the own one.
+    /// Mappings and perf map of the process with an id are to be kept; 0 is the own one.
     CacheProcess(u32),
     /// The ELF file at a path is to be forgotten.
     EvictElf(String),

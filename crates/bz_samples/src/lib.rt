@@ -4,11 +4,12 @@
 
 ghost use Rattle.std.specs.Prelude.{◌≡◌, length, IfOk};
 
+use bz_files::MemFiles;
 use std::alloc::{AllocError, Global};
 
 /// A Breakpad file of calls in calls, whose line record at 1000 names a file that has no FILE record.
-pub const BREAKPAD_CALLS: &str =
-    "FILE 15 o.c\nFILE 4 m.c\nFILE 8 i2.c\nFUNC 1000 30 10 outer_func()\nINLINE_ORIGIN 1 inner_func_2()\nINLINE_ORIGIN 2 mid_func()\nINLINE_ORIGIN 3 inner_func_1()\nINLINE 0 60 15 2 1000 20\nINLINE 1 12 4 3 1000 10\nINLINE 1 17 4 1 1010 10\n1000 10 42 7\n1010 10 52 8\n1020 10 62 15\n";
+pub const BREAKPAD_CALLS: &[u8] =
+    b"FILE 15 o.c\nFILE 4 m.c\nFILE 8 i2.c\nFUNC 1000 30 10 outer_func()\nINLINE_ORIGIN 1 inner_func_2()\nINLINE_ORIGIN 2 mid_func()\nINLINE_ORIGIN 3 inner_func_1()\nINLINE 0 60 15 2 1000 20\nINLINE 1 12 4 3 1000 10\nINLINE 1 17 4 1 1010 10\n1000 10 42 7\n1010 10 52 8\n1020 10 62 15\n";
 
 /// A Breakpad file of five records, each of a kind of its own.
 pub const BREAKPAD_KINDS: &[u8] =
@@ -115,6 +116,20 @@ pub const THREE_MAPPINGS: &[u8] =
 
 /// A perf map of one function: `jit` from 0x3000 on with 0x10 bytes.
 pub const PERF_FUNCTION: &[u8] = b"3000 10 jit\n";
+
+/// The files of process 7: its mapped file isn't an ELF file, and its perf map has a function.
+pub const PROCESS_FILES: &[(&str, &[u8])] = &[
+    ("/proc/7/maps", THREE_MAPPINGS),
+    ("/proc/7/map_files/1000-2000", b"\x7fELF"),
+    ("/proc/7/status", b"Name:\tx\n"),
+    ("/proc/7/root/tmp/perf-7.map", PERF_FUNCTION),
+];
+
+/// Puts a copy of the bytes at the path. OutOfMemory: memory ran out.
+pub fn put(alloc: Global, files: &mut MemFiles, path: &str, bytes: &[u8]) -> bz_base::Result<()> {
+    files.put(alloc, path, Vec::from_slice(alloc, bytes)?)?;
+    Ok(())
+}
 
 /// Writes new bytes over those from a place on. Those that would lie past the end are left out.
 pub fn write(bytes: &mut Vec<u8>, place: usize, new: &[u8])

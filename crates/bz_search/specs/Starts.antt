@@ -35,6 +35,6 @@ AreFew probes count = 2 ^ probes ≤ 2 * count + 1
 abbrev pub AreFound : List ℕ → List ℕ → List (Option ℕ) → Type 0
 AreFound starts addrs places = (k : ℕ) → k < length addrs → IsAt starts (slice_index addrs k) (slice_index_or places k None)
 
--- so many places as there are, are found for the first of the addresses
+-- the places that are there so far are found for the first of the addresses
 abbrev pub AreFoundSoFar : List ℕ → List ℕ → List (Option ℕ) → Type 0
 AreFoundSoFar starts addrs places = (k : ℕ) → k < length places → IsAt starts (slice_index addrs k) (slice_index_or places k None)

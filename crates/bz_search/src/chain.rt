@@ -11,7 +11,7 @@ use std::alloc::{AllocError, Global};
 /// How many depths there are, from 0 on.
 const DEPTHS: u64 = 4_294_967_296;
 
-/// A record with a depth, which may have no records around it.
+/// A record with a depth. It need not have a record of a lesser depth around it.
 pub trait Nested: Spanned {
     /// The depth, as the source has it; 0 is the outermost.
     ghost depth: { Self → ℕ };

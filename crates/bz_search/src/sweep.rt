@@ -151,7 +151,7 @@ pub(crate) struct Gap {
     pub(crate) above: u64,
 }
 
-/// The place for an address, onwards from the one for a lesser address.
+/// The gap for an address, onwards from the one for an address that isn't greater.
 fn advance<L: Ledger>(table: &Starts, from: Gap, addr: Addr, steps: &mut Steps<L>) -> Gap
     requires within { from.place ≤ length table.now }
     requires lower { (k : ℕ) → k < from.place → slice_index table.now k < addr }

@@ -1,6 +1,6 @@
 //! Stacks that are folded by what sources answer, and refused as these refuse.
 
-use crate::files::put;
+use crate::files::{File, put_all};
 use bz_base::Error::{NotFound, Unsupported};
 use bz_base::Input::{AbsAddr, FileOffset, VirtOffset};
 use bz_base::{Input, Result};
@@ -21,13 +21,10 @@ enum Asked {
     Process,
 }
 
-/// A path, and the text of the file that is put there.
-type Put = (&'static str, &'static str);
-
 /// What is asked of a source, and what comes of it.
 struct Step {
     /// The files that are put first.
-    files: &'static [Put],
+    files: &'static [File],
     /// The kind of the addresses.
     kind: Input<()>,
     /// The lines of stacks that are folded then.
@@ -41,31 +38,31 @@ struct Step {
 }
 
 /// Inlined calls inside one another.
-const NESTED: &[Put] = &[("/s.sym", BREAKPAD_CALLS)];
+const NESTED: &[File] = &[("/s.sym", BREAKPAD_CALLS)];
 
 /// A name with a `;`.
-const SEMICOLON: &[Put] = &[("/s.sym", "FUNC 1 1 0 a;b\n")];
+const SEMICOLON: &[File] = &[("/s.sym", b"FUNC 1 1 0 a;b\n")];
 
 /// An inlined call whose origin is missing.
-const NO_ORIGIN: &[Put] = &[(
+const NO_ORIGIN: &[File] = &[(
     "/s.sym",
-    "FILE 0 a.c\nFUNC 10 8 0 f\nINLINE 0 1 0 3 10 4\n10 8 1 0\n",
+    b"FILE 0 a.c\nFUNC 10 8 0 f\nINLINE 0 1 0 3 10 4\n10 8 1 0\n",
 )];
 
 /// A function.
-const PLAIN: &[Put] = &[("/s.sym", "FUNC 1 1 0 a\n")];
+const PLAIN: &[File] = &[("/s.sym", b"FUNC 1 1 0 a\n")];
 
 /// A function, put where no file was.
-const ONE: &[Put] = &[("/s.sym", "FUNC 1000 20 0 one\n")];
+const ONE: &[File] = &[("/s.sym", b"FUNC 1000 20 0 one\n")];
 
 /// The mappings of process 7, its status and its perf map.
-const PROCESS: &[Put] = &[
+const PROCESS: &[File] = &[
     (
         "/proc/7/maps",
-        "3000-4000 rw-p 00000000 00:00 0\n5000-6000 r-xp 00000000 00:00 0 [vdso]\n",
+        b"3000-4000 rw-p 00000000 00:00 0\n5000-6000 r-xp 00000000 00:00 0 [vdso]\n",
     ),
-    ("/proc/7/status", "Name:\tx\n"),
-    ("/proc/7/root/tmp/perf-7.map", "3000 10 jit\n3010 10 a;b\n"),
+    ("/proc/7/status", b"Name:\tx\n"),
+    ("/proc/7/root/tmp/perf-7.map", b"3000 10 jit\n3010 10 a;b\n"),
 ];
 
 /// A source, and what is asked of it one after the other.
@@ -195,7 +192,7 @@ static ROWS: [(Asked, &[Step]); 10] = [
             opens: 3,
         }],
     ),
-    // It refuses another kind of address, and one that isn't there is refused.
+    // A process that isn't there is refused, and so is another kind of address.
     (
         Asked::Process,
         &[
@@ -226,16 +223,6 @@ fn source(alloc: Global, asked: &Asked) -> Result<Source<'static>> {
         Asked::Bytes => Ok(Source::from(GsymData::new(&GSYM_CALLS))),
         Asked::Process => Ok(Source::from(Process::new(Pid::from(7)))),
     }
-}
-
-/// Puts the files. Says whether memory was left.
-fn put_all(alloc: Global, files: &mut MemFiles, all: &[Put]) -> bool {
-    for (path, text) in all {
-        if put(alloc, files, path, text.as_bytes()).is_err() {
-            return false;
-        }
-    }
-    true
 }
 
 /// Whether the stacks, of which there are few, fold to the step's text, or how they are refused.

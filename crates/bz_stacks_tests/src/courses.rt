@@ -1,9 +1,8 @@
 //! What stores answer frames, and which files they keep.
 
-use crate::files::put;
 use bz_base::{Error, FindSymOpts, Sym, Symbolized};
 use bz_files::MemFiles;
-use bz_samples::BREAKPAD_KINDS;
+use bz_samples::{BREAKPAD_KINDS, put};
 use bz_store::{CrashFrame, FrameAnswer, Store};
 use std::alloc::Global;
 

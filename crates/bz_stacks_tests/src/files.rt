@@ -1,11 +1,18 @@
 //! Files in memory.
 
-use bz_base::Result;
 use bz_files::MemFiles;
+use bz_samples::put;
 use std::alloc::Global;
 
-/// Puts bytes at a path.
-pub(crate) fn put(alloc: Global, files: &mut MemFiles, path: &str, bytes: &[u8]) -> Result<()> {
-    files.put(alloc, path, Vec::from_slice(alloc, bytes)?)?;
-    Ok(())
+/// A path, and the bytes of the file that is put there.
+pub(crate) type File = (&'static str, &'static [u8]);
+
+/// Puts the files. Says whether memory was left.
+pub(crate) fn put_all(alloc: Global, files: &mut MemFiles, all: &[File]) -> bool {
+    for (path, bytes) in all {
+        if put(alloc, files, path, bytes).is_err() {
+            return false;
+        }
+    }
+    true
 }

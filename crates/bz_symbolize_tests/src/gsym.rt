@@ -109,7 +109,7 @@ const WITHOUT_CODE_INFO: Script = &[
     ),
 ];
 
-/// Bytes short of a head are refused as what isn't GSYM.
+/// What isn't GSYM is refused: bytes short of a head, and starts that descend.
 const REFUSED: Script = &[Ask(Bytes, Batch(ADDRESSES, &[Refused(Error::InvalidData)]))];
 
 /// The source code of a converted Breakpad file of one function with one line.

@@ -42,8 +42,6 @@ pub(crate) enum Step {
     Put(&'static str, &'static [u8]),
     /// The bytes that are handed in are put at the path.
     PutHandedIn(&'static str),
-    /// The text is put at the path.
-    PutText(&'static str, &'static str),
     /// The bytes are put at the path under the stamp that it has.
     PutUnderItsStamp(&'static str, &'static [u8]),
     /// The generated file of so many functions is put at `/s.sym`.
@@ -81,10 +79,7 @@ pub(crate) type Script = &'static [Step];
 
 /// Puts the bytes at the path. Says whether memory was left.
 pub(crate) fn put(alloc: Global, files: &mut MemFiles, path: &str, bytes: &[u8]) -> bool {
-    match Vec::from_slice(alloc, bytes) {
-        Ok(copy) => files.put(alloc, path, copy).is_ok(),
-        Err(_) => false,
-    }
+    bz_samples::put(alloc, files, path, bytes).is_ok()
 }
 
 /// Puts the bytes at the path under its stamp. Says whether it has one, and memory was left.
@@ -121,7 +116,6 @@ fn with_features(alloc: Global, code_info: bool, calls: bool) -> Symbolizer {
 fn holds_of_files(alloc: Global, files: &mut MemFiles, step: &Step) -> bool {
     match step {
         Step::Put(path, bytes) => put(alloc, files, path, bytes),
-        Step::PutText(path, text) => put(alloc, files, path, text.as_bytes()),
         Step::PutUnderItsStamp(path, bytes) => put_under_its_stamp(alloc, files, path, bytes),
         Step::PutGenerated(functions) => put_generated(alloc, files, *functions),
         Step::Link(path, old) => files.link(alloc, path, old).is_ok(),

@@ -3,7 +3,7 @@
 use bz_base::Error;
 use bz_breakpad::SymbolFile;
 use bz_canon::canonical;
-use bz_samples::{BREAKPAD_KINDS, BREAKPAD_PROGRAM};
+use bz_samples::{BREAKPAD_CALLS, BREAKPAD_KINDS, BREAKPAD_PROGRAM};
 use std::alloc::Global;
 
 /// A file's text, and its canonical text.
@@ -13,7 +13,7 @@ type Row = (&'static [u8], &'static [u8]);
 /// without name and a function that is marked, and of records of every kind.
 const KINDS: &[Row] = &[
     (
-        b"FILE 15 o.c\nFILE 4 m.c\nFILE 8 i2.c\nFUNC 1000 30 10 outer_func()\nINLINE_ORIGIN 1 inner_func_2()\nINLINE_ORIGIN 2 mid_func()\nINLINE_ORIGIN 3 inner_func_1()\nINLINE 0 60 15 2 1000 20\nINLINE 1 12 4 3 1000 10\nINLINE 1 17 4 1 1010 10\n1000 10 42 7\n1010 10 52 8\n1020 10 62 15\n",
+        BREAKPAD_CALLS,
         b"FILE 4 m.c\nFILE 8 i2.c\nFILE 15 o.c\nINLINE_ORIGIN 1 inner_func_2()\nINLINE_ORIGIN 2 mid_func()\nINLINE_ORIGIN 3 inner_func_1()\nFUNC 1000 30 10 outer_func()\nINLINE 0 60 15 2 1000 20\nINLINE 1 12 4 3 1000 10\nINLINE 1 17 4 1 1010 10\n1000 10 42 7\n1010 10 52 8\n1020 10 62 15\n",
     ),
     (b"INFO x\n", b"INFO -\n"),

@@ -22,8 +22,8 @@ static SAID: [(&str, &str, &str, u32, usize, u64); 8] = [
     ("evict", "process", "", 4_294_967_295, 0, 0),
 ];
 
-/// An input, and its first line that isn't well formed; 0 for the input above. Lines have words that
-/// are none, too few fields and too many, and spaces where none may be. There are texts that aren't
+/// An input, and its first line that isn't well formed; 0 for the input above. Lines have unknown
+/// words, too few fields and too many, and spaces where none may be. There are texts that aren't
 /// UTF-8, and numbers that are too great.
 static INPUTS: [(&[u8], u64); 25] = [
     (INPUT, 0),

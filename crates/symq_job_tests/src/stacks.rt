@@ -2,14 +2,14 @@
 
 use bz_samples::BREAKPAD_CALLS;
 use bz_symq::Status;
-use symq_runs::Edit::{Deny, Text};
+use symq_runs::Edit::{Bytes, Deny, Text};
 use symq_runs::{FIRST_RUN, Row, USAGE};
 
 /// Stacks over inlined calls inside one another, and over a function whose name would end a frame.
 const STACKS: Row = Row {
     lines: &[&["stacks", "/n.sym"]],
     edits: &[
-        Text("/n.sym", BREAKPAD_CALLS),
+        Bytes("/n.sym", BREAKPAD_CALLS),
         Text("/o.sym", "FUNC 1 1 0 a;b\n"),
         Deny("/denied"),
     ],

@@ -5,7 +5,7 @@
 use bz_base::Result;
 use bz_files::{MemFiles, MemIn, MemOut};
 use bz_run::run;
-use bz_samples::ELF_FUNCTION;
+use bz_samples::{ELF_FUNCTION, put};
 use bz_symq::{Command, Product, Status, run_command};
 use std::alloc::Global;
 
@@ -95,12 +95,6 @@ pub const WHOLE_ANSWER: &str =
 
 /// The same without code info.
 pub const BARE_ANSWER: &str = "0x1010: another func+0x10 start 0x1000 size 0x30 module bar at -\n";
-
-/// Puts the bytes at the path.
-fn put(alloc: Global, files: &mut MemFiles, path: &str, bytes: &[u8]) -> Result<()> {
-    files.put(alloc, path, Vec::from_slice(alloc, bytes)?)?;
-    Ok(())
-}
 
 /// Makes an edit. Says whether memory was left, and what is removed was there.
 fn make_edit(alloc: Global, files: &mut MemFiles, edit: &Edit) -> bool {

@@ -39,7 +39,7 @@ const EVERY_KIND: Row = Row {
 /// Calls in calls: they stand below their caller, each with its site; outside of them the line record
 /// has it.
 const CALLS: Row = Row {
-    edits: &[Text("/a.sym", BREAKPAD_CALLS)],
+    edits: &[Bytes("/a.sym", BREAKPAD_CALLS)],
     input: "1010\n1020\n1000\n",
     written: "0x1010: outer_func()+0x10 start 0x1000 size 0x30 module - at o.c:60\n  mid_func() at m.c:17\n  inner_func_2() at i2.c:52\n0x1020: outer_func()+0x20 start 0x1000 size 0x30 module - at o.c:62\n0x1000: ? an error occurred but was ignored in batch mode\n",
     ..FIRST_RUN

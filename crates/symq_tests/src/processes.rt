@@ -6,11 +6,11 @@ use symq_runs::Edit::{self, Bytes, Deny, Text};
 use symq_runs::{FIRST_RUN, Row, USAGE};
 
 /// The mappings of a process that maps an ELF file, and memory.
-const ELF: &str =
+const ELF_MAPPINGS: &str =
     "400000-401000 r-xp 00000000 08:01 11 /bin/e\n7fbf1fc21000-7fbf1fc22000 r-xp 00000000 00:00 0\n";
 
-/// What tells of a process beside its mappings.
-const NAME: &str = "Name:\tx\n";
+/// The status of a process, which tells no id.
+const STATUS_TEXT: &str = "Name:\tx\n";
 
 /// What a process maps that isn't an ELF file.
 const BAD_ELF: &str = "\x7fELF";
@@ -23,11 +23,11 @@ const PERF_MAP: &str =
 /// not be read.
 const PROCESSES: &[Edit] = &[
     Bytes("/proc/7/maps", THREE_MAPPINGS),
-    Text("/proc/7/status", NAME),
+    Text("/proc/7/status", STATUS_TEXT),
     Text("/proc/7/map_files/1000-2000", BAD_ELF),
     Text("/proc/7/root/tmp/perf-7.map", PERF_MAP),
     Bytes("/proc/self/maps", THREE_MAPPINGS),
-    Text("/proc/self/status", NAME),
+    Text("/proc/self/status", STATUS_TEXT),
     Text("/proc/self/map_files/1000-2000", BAD_ELF),
     Deny("/proc/9/maps"),
 ];
@@ -70,7 +70,7 @@ pub(crate) static ROWS: [Row; 12] = [
     MISUSED,
     Row {
         lines: &[&["process", "7"]],
-        later: &[Text("/proc/7/maps", ELF)],
+        later: &[Text("/proc/7/maps", ELF_MAPPINGS)],
         input: "400088\n7fbf1fc2144c\n7fbf1fc21456\n7fbf1fc21457\n",
         written: "0x400088: ? an error occurred but was ignored in batch mode\n0x7fbf1fc2144c: py::<module>:<frozen posixpath>+0x0 start 0x7fbf1fc2144c size 0xb module - at -\n0x7fbf1fc21456: py::<module>:<frozen posixpath>+0xa start 0x7fbf1fc2144c size 0xb module - at -\n0x7fbf1fc21457: ? address not found in symbolization source\n",
         ..FIVE
@@ -78,7 +78,7 @@ pub(crate) static ROWS: [Row; 12] = [
     Row {
         lines: &[&["process", "1234567890"]],
         later: &[
-            Text("/proc/1234567890/maps", ELF),
+            Text("/proc/1234567890/maps", ELF_MAPPINGS),
             Bytes("/proc/1234567890/map_files/400000-401000", &ELF_FUNCTION),
         ],
         input: "400088\n400090\n",

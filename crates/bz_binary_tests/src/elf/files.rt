@@ -304,7 +304,7 @@ fn files_are_taken_or_refused_by_fields_and_length(rt: HostRuntime) {
             "row {index}"
         );
     }
-    // The class is looked at as soon as it stands there, before anything behind it.
+    // Class and order of bytes are looked at as soon as both stand there, before anything behind them.
     for len in 0..368usize {
         let front = &ELF_FUNCTION[..len];
         let of_32_bits = if len < 6 { BAD } else { OTHER };

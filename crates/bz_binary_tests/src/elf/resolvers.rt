@@ -1,12 +1,11 @@
 //! Resolvers, and files in a cache.
 
 use crate::elf::files::{F, UNKNOWN, tells};
-use crate::files::put;
 use bz_base::{Error, ErrorKind, TranslateFileOffset};
 use bz_cache::FileCache;
 use bz_elf::{ElfFile, ElfResolver};
 use bz_files::MemFiles;
-use bz_samples::ELF_FUNCTION;
+use bz_samples::{ELF_FUNCTION, put};
 use std::alloc::Global;
 
 /// The example file, its front, and the front of one of 32 bits.

@@ -1,12 +1,11 @@
 //! Resolvers, and files in a cache.
 
-use crate::files::put;
 use crate::gsym::answers::{AT_MAIN, tells};
 use bz_base::{Error, ErrorKind};
 use bz_cache::FileCache;
 use bz_files::MemFiles;
 use bz_gsym::{GsymResolver, GsymTable};
-use bz_samples::GSYM_LINES;
+use bz_samples::{GSYM_LINES, put};
 use std::alloc::Global;
 
 /// Puts the example file, its front and a path that is denied. The fifth look at files fails.

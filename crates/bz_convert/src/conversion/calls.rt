@@ -93,7 +93,10 @@ fn without_repeats(alloc: Global, placed: &[PlacedCall]) -> Result<Vec<Inlinee>,
 fn is_repeated(before: Option<Inlinee>, call: &Inlinee) -> bool
     ensures { result ≡ is_repeated (option_map inlinee_seen before) (inlinee_seen call.now) }
 {
-    before == Some(*call)
+    match before {
+        Some(before) => before == *call,
+        None => false,
+    }
 }
 
 /// The node of an inlined call.

@@ -27,13 +27,7 @@ pub(crate) fn head_refusal(bytes: &[u8]) -> Option<Error>
     if !is_supported(bytes) {
         return Some(Error::Unsupported);
     }
-    if !has_head(bytes) {
-        return Some(Error::InvalidData);
-    }
-    if !has_program_headers(bytes) {
-        return Some(Error::InvalidData);
-    }
-    if !has_sections(bytes) {
+    if !has_head(bytes) || !has_program_headers(bytes) || !has_sections(bytes) {
         return Some(Error::InvalidData);
     }
     None

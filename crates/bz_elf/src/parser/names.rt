@@ -29,8 +29,8 @@ pub(crate) fn are_named(alloc: Global, strings: &[u8], symbols: &[SymbolEntry]) 
     Ok(are_names(strings, places.as_slice()))
 }
 
-/// The places of those names that don't stand in the text up to `end`. None: one stands there at a
-/// place where no name can.
+/// The places of those names that don't stand in the text up to `end`. None: one of the others begins
+/// inside a character.
 fn places_behind(
     alloc: Global,
     strings: &[u8],

@@ -34,7 +34,7 @@ pub(crate) fn skip_ranges(cursor: &mut Cursor<'_>, count: u64) -> Option<()>
     Some(())
 }
 
-/// What so many ranges say of the address, unless one of them passes 64 bits.
+/// What so many ranges say of the address. None: one of them isn't whole, or passes 64 bits.
 #[inline(always)]
 pub(crate) fn read_ranges(cursor: &mut Cursor<'_>, count: u64, base: u64, addr: u64) -> Option<Span>
     ensures some { IfSome result (λ span. span_at addr base count cursor.old.left ≡ Some (span_seen span, cursor.new.left)) }

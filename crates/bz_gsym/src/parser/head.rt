@@ -13,7 +13,7 @@ use crate::format::{
 use crate::types::Header;
 use bz_base::{Error, Result, padding, u8_at, u16_at, u32_at, u64_at};
 
-/// The head, if the bytes are a GSYM file. Nothing of the file is kept beside it.
+/// The head, if the bytes are a GSYM file. InvalidData: they aren't one.
 pub(crate) fn checked_header(bytes: &[u8]) -> Result<Header>
     ensures ok { IfOk result (IsHeaded bytes.now) }
     ensures refusal { IfErr result (λ e. (e ≡ Error.InvalidData) × ¬ (IsGsym bytes.now)) }

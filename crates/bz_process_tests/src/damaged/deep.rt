@@ -7,7 +7,7 @@ use bz_files::MemFiles;
 use bz_gsym::GsymContext;
 use std::alloc::{AllocError, Global};
 
-/// How many functions lie inside one another, the outermost one included.
+/// How many nodes the tree has, one inside the other, and how many calls the text has so.
 const DEPTH: u32 = 100_000;
 
 /// The line at which each is called in the one around it, and that of the innermost one.

@@ -6,7 +6,7 @@ use bz_base::{Input, Reason};
 use bz_process::NoDispatch;
 use bz_samples::ELF_FUNCTION;
 
-/// Mappings of an ELF file: from its last offset on, and from one that its segment hasn't.
+/// Mappings of an ELF file from the last offset on, from one that no segment has, and from `f` on.
 const MAPS: &[u8] =
     b"1000-2000 r-xp ffffffffffffffff 00:00 1 /e\n3000-4000 r-xp 200 00:00 1 /e\n5000-6000 r-xp 80 00:00 1 /e\n";
 

@@ -2,11 +2,10 @@
 
 use crate::failing::asking::is_told;
 use crate::failing::sources::{BREAKPAD, Told, source};
-use crate::files::put;
 use bz_base::Input::FileOffset;
 use bz_base::{Error, Reason, Result, Symbolized};
 use bz_files::MemFiles;
-use bz_samples::BREAKPAD_CALLS;
+use bz_samples::{BREAKPAD_CALLS, put};
 use bz_symbolize::Symbolizer;
 use bz_symbolize::source::Source;
 use std::alloc::Global;
@@ -60,7 +59,7 @@ fn answers_each_alone(alloc: Global, files: &mut MemFiles, src: &Source<'_>) -> 
 fn file_answers_each_alone(alloc: Global) -> Result<bool> {
     let src = source(alloc, BREAKPAD)?;
     let mut files = MemFiles::new(alloc, 0);
-    put(alloc, &mut files, BREAKPAD.path, BREAKPAD_CALLS.as_bytes())?;
+    put(alloc, &mut files, BREAKPAD.path, BREAKPAD_CALLS)?;
     answers_each_alone(alloc, &mut files, &src)
 }
 

@@ -1,10 +1,9 @@
 //! The sources that are asked, what their files are, and what they answer.
 
-use crate::files::put;
+use crate::files::File;
 use bz_base::Input::{AbsAddr, FileOffset, VirtOffset};
 use bz_base::{Input, Reason, Result};
-use bz_files::MemFiles;
-use bz_samples::{ELF_FUNCTION, GSYM_LINES, PERF_FUNCTION, THREE_MAPPINGS};
+use bz_samples::{ELF_FUNCTION, GSYM_LINES, PERF_FUNCTION, PROCESS_FILES};
 use bz_symbolize::Pid;
 use bz_symbolize::source::{Breakpad, Elf, GsymFile, Process, Source};
 use std::alloc::Global;
@@ -17,9 +16,6 @@ pub(crate) enum Kind {
     /// Process 7.
     Process,
 }
-
-/// A path, and the bytes of the file that is put there.
-pub(crate) type File = (&'static str, &'static [u8]);
 
 /// What an address is told: the name of its symbol, or why it has none; and whether it has a site.
 pub(crate) type Told = (&'static str, Option<Reason>, bool);
@@ -89,12 +85,7 @@ pub(crate) const PROCESS: &Asked = &Asked {
 pub(crate) const MAPPED: &Asked = &Asked {
     kind: Kind::Process,
     path: "/proc/7/maps",
-    files: &[
-        ("/proc/7/maps", THREE_MAPPINGS),
-        ("/proc/7/map_files/1000-2000", b"\x7fELF"),
-        ("/proc/7/status", b"Name:\tx\n"),
-        ("/proc/7/root/tmp/perf-7.map", PERF_FUNCTION),
-    ],
+    files: PROCESS_FILES,
     question: (
         AbsAddr(()),
         &[0x7000, 0x5000, 0x3008, 0x2800, 0x1004],
@@ -118,14 +109,4 @@ pub(crate) fn source(alloc: Global, asked: &Asked) -> Result<Source<'static>> {
         Kind::Elf => Source::from(Elf::new(path)),
         Kind::Process => Source::from(Process::new(Pid::from(7))),
     })
-}
-
-/// Puts the files. Says whether memory was left.
-pub(crate) fn put_all(alloc: Global, files: &mut MemFiles, all: &[File]) -> bool {
-    for (path, bytes) in all {
-        if put(alloc, files, path, bytes).is_err() {
-            return false;
-        }
-    }
-    true
 }

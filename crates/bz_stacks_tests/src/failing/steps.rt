@@ -1,7 +1,8 @@
 //! What is done step by step, each time over new files in memory and a new symbolizer.
 
 use crate::failing::asking::{CALLS, Call, ask};
-use crate::failing::sources::{Asked, File, Kind, Question, put_all, source};
+use crate::failing::sources::{Asked, Kind, Question, source};
+use crate::files::{File, put_all};
 use bz_base::{Error, Input, Result};
 use bz_elf::ElfResolver;
 use bz_files::MemFiles;
