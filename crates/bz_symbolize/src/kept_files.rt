@@ -154,8 +154,9 @@ impl KeptFiles {
     ) -> Result<()>
         ensures { Registers F.Files path.now resolver.value.bytes result self.old self.new files.old files.new }
     {
+        let cache = &mut self.elf;
         let file = resolver.as_ref().file().clone()?;
-        self.elf.insert_value(alloc, files, path, file)
+        cache.insert_value(alloc, files, path, file)
     }
 
     /// Looks at the ELF file at the path as if the path weren't pinned, and pins it.

@@ -273,10 +273,13 @@ fn kind_for(target: &Target, input: Option<&str>) -> Option<Input<()>>
 fn kind_named(text: &str) -> Option<Input<()>>
     ensures { option_map address_kind result ≡ kind_named text.now }
 {
-    match text {
-        "abs" => Some(Input::AbsAddr(())),
-        "virt" => Some(Input::VirtOffset(())),
-        "file" => Some(Input::FileOffset(())),
-        _ => None,
+    if text == "abs" {
+        Some(Input::AbsAddr(()))
+    } else if text == "virt" {
+        Some(Input::VirtOffset(()))
+    } else if text == "file" {
+        Some(Input::FileOffset(()))
+    } else {
+        None
     }
 }

@@ -65,8 +65,10 @@ fn answered_by<F: Files>(
     ensures reply { RepliesFrames F.Files store.root opts.now (Ok (map frame_of frames.now)) result files.old files.new }
     ensures answered { IfOk result (IsFramesReply store.root opts.now (Ok (map frame_of frames.now)) (F.Files.opens files.old) (F.Files.opens files.new)) }
 {
-    let answers = store.answer(alloc, files, frames, opts)?;
-    texts_reply(alloc, frames, answers.as_slice())
+    match store.answer(alloc, files, frames, opts) {
+        Ok(answers) => texts_reply(alloc, frames, answers.as_slice()),
+        Err(error) => Err(error),
+    }
 }
 
 // A store at the root that keeps no file yet.

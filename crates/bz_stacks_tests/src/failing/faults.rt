@@ -95,7 +95,7 @@ static PROCESS_FAILS: [Step; 6] = [
 
 #[test]
 fn a_batch_of_a_process_fails_by_any_look(rt: HostRuntime) {
-    for look in 1..=10 {
+    for look in 1..11 {
         assert!(rt;
             hold(
                 rt.alloc(),
